@@ -1,0 +1,12 @@
+pub mod Lists
+pub mod Field
+pub mod Tree
+pub mod Separation
+pub mod Pairs
+pub mod Record
+pub mod Rules
+pub mod Refusals
+pub mod Questions
+pub mod Program
+pub mod Answers
+pub mod Sheets
