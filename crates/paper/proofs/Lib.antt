@@ -1,3 +1,3 @@
+mod Sheets
 pub mod ListLaws
 pub mod Tables
-pub mod Readings

@@ -21,7 +21,7 @@ pub by-case₂ : {A B : Type 0} (R : A → B → Type 0) (t : Bool) {x y : A} {u
 by-case₂ R true f g = f refl
 by-case₂ R false f g = g refl
 
-pub cases : {X : Type 0} (t : Bool) → (t ≡ true → X) → (t ≡ false → X) → X
+pub cases {ℓ} : {X : Type ℓ} (t : Bool) → (t ≡ true → X) → (t ≡ false → X) → X
 cases true f g = f refl
 cases false f g = g refl
 

@@ -9,4 +9,3 @@ pub mod Refusals
 pub mod Questions
 pub mod Program
 pub mod Answers
-pub mod Sheets

@@ -1,5 +1,5 @@
 -- Document 01, "Record bytes", the record rules: what a record must meet, whoever made it. Each rule twice: as a test that computes, and
--- as a statement in the document's words; `Readings` proves that they agree. Assumes nothing.
+-- as a statement in the document's words; `Statements` of `theory` proves that they agree. Assumes nothing.
 use mathlib.Core.Path.{_≡_}
 use mathlib.Core.Logic.{_≢_, _⊎_}
 use mathlib.Core.Bool.{Bool, true, false, _&&_, _||_, not}
