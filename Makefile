@@ -1,11 +1,23 @@
 # run: the main job on an example. test: the gate.
+SHELL := bash
+.SHELLFLAGS := -euo pipefail -c
+.ONESHELL:
 .PHONY: run test
 
-# Proves the definitions of document 01 and computes its sheets P1 to P9 with them.
+# The proved library, called from C on the record of sheet P3.
 run:
-	rt check paper
+	rt staticlib press
+	$(CC) -std=c11 -Wall -Wextra -O2 -Iinclude examples/check.c target/staticlib/libpress.a -o target/check
+	target/check examples/p3.record
 
-# Every crate proved from nothing, every must-fail edit refused, every program run.
+# Every crate proved from nothing, every must-fail edit refused; then the library from Rust and from C. The last line is the prover's, printed
+# again where everything passed.
 test:
+	log=$$(mktemp)
+	trap 'rm -f "$$log"' EXIT
 	rt fmt --check
-	rt ci
+	rt ci | tee "$$log"
+	$(MAKE) --no-print-directory run
+	cargo fmt --manifest-path host/Cargo.toml --check
+	cargo test --manifest-path host/Cargo.toml --quiet
+	tail -n 1 "$$log"

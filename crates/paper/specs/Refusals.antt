@@ -180,14 +180,14 @@ build c a b w o =
     ∷ []
     else given r
 
--- "Checker's order: 5; 8 (4 bytes); 4; 2, 3; 8 (6 + 4n); 9 for nodes; 8 (6 + 12n); 9 for pairs; 8 (6 + 12n + 4m); 10;"
-abbrev pub framing : List ℕ → ℕ → List Line
-framing r w =
+-- "Checker's order: 5;" then how a record is cut into its parts: "8 (4 bytes); 4; 2, 3; 8 (6 + 4n); 9 for nodes; 8 (6 + 12n); 9 for pairs;
+-- 8 (6 + 12n + 4m); 10;"
+abbrev pub cutting : List ℕ → List Line
+cutting r =
     let l = length r in
     let n = holes-in r in
     let m = pairs-in r in
-    work w
-    ∷ short l holes-at
+    short l holes-at
     ∷ ratio (getD r 0 0) (getD r 1 0)
     ∷ none n
     ∷ many n
@@ -198,6 +198,9 @@ framing r w =
     ∷ short l (whole n m)
     ∷ over l (whole n m)
     ∷ []
+
+abbrev pub framing : List ℕ → ℕ → List Line
+framing r w = work w ∷ cutting r
 
 -- "6; 11; 12; 13; 14." Nothing here depends on how the bytes are laid out
 abbrev pub content : View → List Line

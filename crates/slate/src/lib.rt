@@ -3,7 +3,7 @@
 ghost use mathlib.Core.Path.{_≡_};
 ghost use Prim.Native.Nat.{_<_};
 ghost use lib.ListN.{length, replicate};
-ghost use Rattle.slate.specs.Slate.{Within, Held, Set};
+ghost use Rattle.slate.specs.Slate.{Within, Columned, WideWithin, Held, Set, Cleared, WideHeld, WideSet};
 
 // A node's first part; 65,535 for a leaf.
 pub const FIRST: usize = 0;
@@ -61,4 +61,32 @@ pub fn wipe(work: &mut [u8])
     ensures { λ _. ⌜ now (work .exit) ≡ replicate (length (now (work .entry))) 0 ⌝ }
 {
     words::zero(work);
+}
+
+// Sets the first n cells of column c to 0.
+pub fn clear(work: &mut [u8], c: usize, n: usize)
+    requires { ⌜ Columned (now work) c n ⌝ }
+    ensures { λ _. ⌜ Cleared (now (work .entry)) (now (work .exit)) c n ⌝ }
+{
+    for k in 0..n {
+        set_cell(work, c, k, 0);
+    }
+}
+
+// What wide cell k of column c holds.
+pub fn wide_cell(work: &[u8], c: usize, k: usize) -> usize
+    requires { ⌜ WideWithin (now work) c k ⌝ }
+    ensures { λ r. ⌜ WideHeld (now (work .entry)) c k r ⌝ }
+{
+    65536 * cell(work, c, 2 * k) + cell(work, c, 2 * k + 1)
+}
+
+// Sets wide cell k of column c to v.
+pub fn set_wide_cell(work: &mut [u8], c: usize, k: usize, v: usize)
+    requires { ⌜ WideWithin (now work) c k ⌝ }
+    requires { ⌜ v < 4294967296 ⌝ }
+    ensures { λ _. ⌜ WideSet (now (work .entry)) (now (work .exit)) c k v ⌝ }
+{
+    set_cell(work, c, 2 * k, v / 65536);
+    set_cell(work, c, 2 * k + 1, v % 65536);
 }

@@ -67,7 +67,7 @@ module _ {P : ℕ → Type 0} (t : ℕ → Bool) (same : (i : ℕ) → t i ≡ t
   none-least f j l p = f (least t k) (least-of t same k (some-below t k j l (same j .1 p)))
 
 -- two holes in the other order
-turned : (v : View) (p q : ℕ) → OnePair v p q → OnePair v q p
+pub turned : (v : View) (p q : ℕ) → OnePair v p q → OnePair v q p
 turned v p q o =
     record {
       which = o .which;

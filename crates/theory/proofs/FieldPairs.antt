@@ -30,11 +30,11 @@ use Rattle.theory.proofs.Numbering.{under-sub, number-sub, grow-back, n
 use Rattle.theory.proofs.Checker.{Meant}
 
 -- a test over a list that is mapped, and two tests that agree on a list
-count-map : {A B : Type 0} (p : B → Bool) (f : A → B) (l : List A) → count p (map f l) ≡ count (λ x. p (f x)) l
+pub count-map : {A B : Type 0} (p : B → Bool) (f : A → B) (l : List A) → count p (map f l) ≡ count (λ x. p (f x)) l
 count-map p f [] = refl
 count-map p f (x ∷ l) = cases (p (f x)) (λ e. rw (e, count) (ap suc (count-map p f l))) (λ e. rw (e, count) (count-map p f l))
 
-count-same : {A : Type 0} (p q : A → Bool) (l : List A) → Each (λ x. p x ≡ q x) l → count p l ≡ count q l
+pub count-same : {A : Type 0} (p q : A → Bool) (l : List A) → Each (λ x. p x ≡ q x) l → count p l ≡ count q l
 count-same p q [] w = refl
 count-same p q (x ∷ l) w =
     cases (q x)

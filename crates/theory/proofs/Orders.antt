@@ -253,13 +253,12 @@ content-agrees v =
     then cover-agrees v
     then end
 
-framing-agrees : (r : List ℕ) (w : ℕ) → AgreeAll (line.framing r w) (due.framing r w)
-framing-agrees r w =
+pub cutting-agrees : (r : List ℕ) → AgreeAll (line.cutting r) (due.cutting r)
+cutting-agrees r =
     let l = length r in
     let n = holes-in r in
     let m = pairs-in r in
-    work-agrees w
-    then short-agrees l holes-at
+    short-agrees l holes-at
     then ratio-agrees (getD r 0 0) (getD r 1 0)
     then none-agrees n
     then many-agrees n
@@ -270,6 +269,9 @@ framing-agrees r w =
     then short-agrees l (whole n m)
     then by-test (R.Over l) (less (whole n m) l)
     then end
+
+framing-agrees : (r : List ℕ) (w : ℕ) → AgreeAll (line.framing r w) (due.framing r w)
+framing-agrees r w = work-agrees w then cutting-agrees r
 
 checker-agrees : (r : List ℕ) (w : ℕ) → AgreeAll (line.framing r w ++ line.content (viewOf r)) (due.checker r w)
 checker-agrees r w = agree-append (framing-agrees r w) (content-agrees (viewOf r))

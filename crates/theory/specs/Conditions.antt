@@ -96,13 +96,12 @@ builder c a b w o =
     let H = holesAt 2 c 0 n in
     work w ∷ odd 4 (length c) ∷ none n ∷ many n ∷ ratio a b ∷ twice H ∷ room o (length (written (built a b H))) ∷ []
 
-abbrev pub framing : List ℕ → ℕ → List Condition
-framing r w =
+abbrev pub cutting : List ℕ → List Condition
+cutting r =
     let l = length r in
     let n = holes-in r in
     let m = pairs-in r in
-    work w
-    ∷ short l holes-at
+    short l holes-at
     ∷ ratio (getD r 0 0) (getD r 1 0)
     ∷ none n
     ∷ many n
@@ -113,6 +112,9 @@ framing r w =
     ∷ short l (whole n m)
     ∷ over l (whole n m)
     ∷ []
+
+abbrev pub framing : List ℕ → ℕ → List Condition
+framing r w = work w ∷ cutting r
 
 abbrev pub content : View → List Condition
 content v = twice (v .holes) ∷ tree v ∷ loosely v ∷ paired v ∷ cover v ∷ []

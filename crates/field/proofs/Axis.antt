@@ -1,0 +1,109 @@
+-- One axis more. A hole, a box, the box around two, G and D over x + 1 axes are those over x axes with axis x at the end, since each is made
+-- along the list of axes, in order. So a loop over the axes keeps its contract at its counter. Assumes nothing.
+use mathlib.Core.Path.{_≡_, refl, _∙_}
+use mathlib.Core.List.{List, [], _∷_, _++_, map, map-append}
+use Prim.Native.Nat.{ℕ, zero, suc, _+_, _*_, _<_}
+use native.Mathlib.Nat.{zero-add, add-zero}
+use native.Mathlib.Omega.{arith}
+use lib.ListN.{length, length-map}
+use Rattle.words.specs.Words.{be}
+use Rattle.slate.specs.Columns.{LOW, HIGH}
+use Rattle.paper.specs.Lists.{from, below}
+use Rattle.paper.specs.Field.{listAt, holeAt, gap, square, distance²}
+use Rattle.paper.specs.Tree.{Side, Box, point, spot, around, long}
+use Rattle.paper.specs.Separation.{G, C, D}
+use Rattle.field.specs.Boxes.{sideOn, boxOn, Boxed}
+use Rattle.field.specs.Sides.{sideAround, twice-centre, gapOn, Sided}
+use Rattle.field.proofs.Boxes.{length-box, box-same}
+
+-- ---- one more at the end of a list
+
+from-end : (i n : ℕ) → from i (n + 1) ≡ from i n ++ ((i + n) ∷ [])
+from-end i zero = rw add-zero
+from-end i (suc n) =
+    let e : suc n + 1 ≡ suc (n + 1) = omega arith in
+    let f : i + suc n ≡ suc i + n = omega arith in
+    rw (e, f, from-end (suc i) n)
+
+map-end : {A : Type 0} (f : ℕ → A) (n : ℕ) → map f (below (n + 1)) ≡ map f (below n) ++ (f n ∷ [])
+map-end f n = rw (from-end 0 n, map-append, zero-add)
+
+around-end : (A B : Box) (s t : Side) → length A ≡ length B → around (A ++ (s ∷ [])) (B ++ (t ∷ [])) ≡ around A B ++ (sideAround s t ∷ [])
+unfolding around
+around-end [] [] s t e = refl
+around-end [] (b ∷ B) s t e = absurd (omega arith)
+around-end (a ∷ A) [] s t e = absurd (omega arith)
+around-end (a ∷ A) (b ∷ B) s t e = rw (around-end A B s t (omega arith))
+
+G-end : (A : Box) (s : Side) → G (A ++ (s ∷ [])) ≡ G A + square (long s)
+unfolding G
+G-end [] s = omega arith
+G-end (a ∷ A) s = rw (G-end A s) (omega arith)
+
+distance-end : (p q : List ℕ) (x y : ℕ) → length p ≡ length q → distance² (p ++ (x ∷ [])) (q ++ (y ∷ [])) ≡ distance² p q + square (gap x y)
+unfolding distance²
+distance-end [] [] x y e = omega arith
+distance-end [] (b ∷ q) x y e = absurd (omega arith)
+distance-end (a ∷ p) [] x y e = absurd (omega arith)
+distance-end (a ∷ p) (b ∷ q) x y e = rw (distance-end p q x y (omega arith)) (omega arith)
+
+D-end : (A B : Box) (s t : Side) → length A ≡ length B
+    → D (A ++ (s ∷ [])) (B ++ (t ∷ [])) ≡ D A B + square (gap (twice-centre s) (twice-centre t))
+unfolding D C
+D-end A B s t e =
+    rw (map-append, map-append)
+    (distance-end (map twice-centre A) (map twice-centre B) (twice-centre s) (twice-centre t) (rw (length-map, length-map) e))
+
+-- ---- a hole in a list of bytes
+
+pub hole-none : (s : List ℕ) (o : ℕ) → holeAt 0 s o ≡ []
+unfolding holeAt listAt
+hole-none s o = refl
+
+pub hole-more : (x : ℕ) (s : List ℕ) (o : ℕ) → holeAt (x + 1) s o ≡ holeAt x s o ++ (be 2 s (o + 2 * x) ∷ [])
+unfolding holeAt listAt
+hole-more x s o = map-end (λ y. be 2 s (o + 2 * y)) x
+
+pub spot-more : (x : ℕ) (s : List ℕ) (o : ℕ) → spot (holeAt (x + 1) s o) ≡ spot (holeAt x s o) ++ (point (be 2 s (o + 2 * x)) ∷ [])
+spot-more x s o = rw (hole-more, map-append)
+
+-- ---- boxes on the slate
+
+pub box-none : (w : List ℕ) (k : ℕ) → boxOn w 0 k ≡ []
+unfolding boxOn
+box-none w k = refl
+
+box-more : (w : List ℕ) (x k : ℕ) → boxOn w (x + 1) k ≡ boxOn w x k ++ (sideOn w k x ∷ [])
+unfolding boxOn
+box-more w x k = map-end (sideOn w k) x
+
+same-long : (w : List ℕ) (x j k : ℕ) → length (boxOn w x j) ≡ length (boxOn w x k)
+same-long w x j k = rw (length-box, length-box)
+
+pub around-more : (w : List ℕ) (x i j : ℕ)
+    → around (boxOn w (x + 1) i) (boxOn w (x + 1) j) ≡ around (boxOn w x i) (boxOn w x j) ++ (sideAround (sideOn w i x) (sideOn w j x) ∷ [])
+around-more w x i j = rw (box-more w x i, box-more w x j) (around-end _ _ (sideOn w i x) (sideOn w j x) (same-long w x i j))
+
+pub G-more : (w : List ℕ) (x k : ℕ) → G (boxOn w (x + 1) k) ≡ G (boxOn w x k) + square (long (sideOn w k x))
+G-more w x k = rw (box-more w x k) (G-end (boxOn w x k) (sideOn w k x))
+
+pub D-more : (w : List ℕ) (x j k : ℕ) → D (boxOn w (x + 1) j) (boxOn w (x + 1) k) ≡ D (boxOn w x j) (boxOn w x k) + square (gapOn w j k x)
+D-more w x j k = rw (box-more w x j, box-more w x k) (D-end _ _ (sideOn w j x) (sideOn w k x) (same-long w x j k))
+
+-- ---- a box set on no axis, and on one axis more
+
+pub boxed-none : (w : List ℕ) (k : ℕ) → Boxed w w 0 k []
+boxed-none w k = record { len = refl; box = box-none w k; rest = λ i h. refl }
+
+pub boxed-more : {old mid new : List ℕ} {x k : ℕ} {B : Box} {s : Side} → Boxed old mid x k B → Sided mid new x k s → x < 3
+    → Boxed old new (x + 1) k (B ++ (s ∷ []))
+boxed-more {old} {mid} {new} {x} {k} p q l =
+    record {
+      len = q .len ∙ p .len;
+      box = rw (box-more new x k, box-same new mid x k k left, p .box, q .is);
+      rest = λ i h. q .rest i (h (LOW + 2 * x) (omega arith) (omega arith)) (h (HIGH + 2 * x) (omega arith) (omega arith)) ∙ p .rest i h;
+    }
+  where
+    left : (y : ℕ) → y < x → sideOn new k y ≡ sideOn mid k y
+    left y m =
+        rw (q .rest (2_048 * (LOW + 2 * y) + k) (omega arith) (omega arith), q .rest (2_048 * (HIGH + 2 * y) + k) (omega arith) (omega arith))

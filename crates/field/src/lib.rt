@@ -1,0 +1,242 @@
+// Holes and boxes: a hole's coordinates in a list of bytes, holes that stand at one place, the box of a node on the slate, and separation.
+// Everything is over d coordinates, one to three of them.
+ghost use mathlib.Core.Path.{_≡_};
+ghost use mathlib.Core.Bool.{_&&_, not};
+ghost use Prim.Native.Nat.{_+_, _*_, _<_, _≤_, min, max};
+ghost use lib.Dec.{eqb, leb};
+ghost use Rattle.words.specs.Words.{Read};
+ghost use Rattle.paper.specs.Lists.{same};
+ghost use Rattle.paper.specs.Field.{holeAt, holesAt, gap, square, Ratio};
+ghost use Rattle.paper.specs.Tree.{spot, around, long};
+ghost use Rattle.paper.specs.Separation.{G, D, separated};
+ghost use Rattle.paper.specs.Rules.{repeats, Repeats};
+ghost use Rattle.field.specs.Found.{Finds};
+ghost use Rattle.field.specs.Boxes.{HolesIn, HoleIn, NodeOn, Boxed, sideOn, boxOn};
+ghost use Rattle.field.specs.Sides.{side, sideAround, twice-centre, gapOn, SideIn, Sided, Squared};
+
+// What a search over numbers finds: the least with a property.
+pub enum Found {
+    At(usize),
+    Nothing,
+}
+
+// Coordinate x of hole i.
+pub fn coordinate(holes: &[u8], d: usize, i: usize, x: usize) -> usize
+    requires { ⌜ HoleIn (now holes) d i ⌝ }
+    requires { ⌜ x < d ⌝ }
+    ensures { λ r. ⌜ Read 2 (now (holes .entry)) (2 * d * i + 2 * x) r ⌝ }
+{
+    words::get16(holes, 2 * d * i + 2 * x)
+}
+
+// Whether holes i and j stand at one place.
+pub fn same_place(holes: &[u8], d: usize, i: usize, j: usize) -> bool
+    requires { ⌜ HoleIn (now holes) d i ⌝ }
+    requires { ⌜ HoleIn (now holes) d j ⌝ }
+    ensures { λ r. ⌜ r ≡ same (holeAt d (now (holes .entry)) (2 * d * i)) (holeAt d (now (holes .entry)) (2 * d * j)) ⌝ }
+{
+    for x in 0..d {
+        if coordinate(holes, d, i, x) != coordinate(holes, d, j, x) {
+            return false;
+        }
+    }
+    true
+}
+
+// Whether hole i stands where a lower-numbered one does.
+fn is_repeat(holes: &[u8], d: usize, i: usize) -> bool
+    requires { ⌜ HoleIn (now holes) d i ⌝ }
+    ensures { λ r. ⌜ r ≡ repeats (holesAt d (now (holes .entry)) 0 (i + 1)) i ⌝ }
+{
+    for j in 0..i {
+        if same_place(holes, d, j, i) {
+            return true;
+        }
+    }
+    false
+}
+
+// The least of n holes that stands where a lower-numbered one does.
+pub fn repeated(holes: &[u8], d: usize, n: usize) -> Found
+    requires { ⌜ HolesIn (now holes) d n ⌝ }
+    ensures { λ r. ⌜ Finds (Repeats (holesAt d (now (holes .entry)) 0 n)) n r ⌝ }
+{
+    for i in 0..n {
+        if is_repeat(holes, d, i) {
+            return Found::At(i);
+        }
+    }
+    Found::Nothing
+}
+
+// The low end of node k's side on axis x, and the high end.
+fn low(work: &[u8], x: usize, k: usize) -> usize
+    requires { ⌜ SideIn (now work) x k ⌝ }
+    ensures { λ r. ⌜ (r ≡ sideOn (now (work .entry)) k x .low) × (r < 65536) ⌝ }
+{
+    slate::cell(work, slate::LOW + 2 * x, k)
+}
+
+fn high(work: &[u8], x: usize, k: usize) -> usize
+    requires { ⌜ SideIn (now work) x k ⌝ }
+    ensures { λ r. ⌜ (r ≡ sideOn (now (work .entry)) k x .high) × (r < 65536) ⌝ }
+{
+    slate::cell(work, slate::HIGH + 2 * x, k)
+}
+
+// Node k's side on axis x goes from l to h.
+fn set_side(work: &mut [u8], x: usize, k: usize, l: usize, h: usize)
+    requires { ⌜ SideIn (now work) x k ⌝ }
+    requires { ⌜ (l < 65536) × (h < 65536) ⌝ }
+    ensures { λ _. ⌜ Sided (now (work .entry)) (now (work .exit)) x k (side l h) ⌝ }
+{
+    slate::set_cell(work, slate::LOW + 2 * x, k, l);
+    slate::set_cell(work, slate::HIGH + 2 * x, k, h);
+}
+
+// Node k's box is the place of hole h.
+pub fn set_point(work: &mut [u8], holes: &[u8], d: usize, k: usize, h: usize)
+    requires { ⌜ NodeOn (now work) d k ⌝ }
+    requires { ⌜ HoleIn (now holes) d h ⌝ }
+    ensures { λ _. ⌜ Boxed (now (work .entry)) (now (work .exit)) d k (spot (holeAt d (now (holes .entry)) (2 * d * h))) ⌝ }
+{
+    for x in 0..d {
+        let c = coordinate(holes, d, h, x);
+        set_side(work, x, k, c, c);
+    }
+}
+
+// The lesser and the greater of two numbers.
+fn lesser(x: usize, y: usize) -> usize
+    ensures { λ r. ⌜ r ≡ min x y ⌝ }
+{
+    if x < y { x } else { y }
+}
+
+fn greater(x: usize, y: usize) -> usize
+    ensures { λ r. ⌜ r ≡ max x y ⌝ }
+{
+    if x < y { y } else { x }
+}
+
+// Node k's side on axis x is the smallest that holds those of nodes i and j.
+fn set_side_around(work: &mut [u8], x: usize, k: usize, i: usize, j: usize)
+    requires { ⌜ SideIn (now work) x k ⌝ }
+    requires { ⌜ (i < 2048) × (j < 2048) ⌝ }
+    ensures { λ _. ⌜ Sided (now (work .entry)) (now (work .exit)) x k (sideAround (sideOn (now (work .entry)) i x) (sideOn (now (work .entry)) j x)) ⌝ }
+{
+    let l = lesser(low(work, x, i), low(work, x, j));
+    let h = greater(high(work, x, i), high(work, x, j));
+    set_side(work, x, k, l, h);
+}
+
+// Node k's box is the smallest that holds the boxes of nodes i and j, which are other nodes.
+pub fn set_around(work: &mut [u8], d: usize, k: usize, i: usize, j: usize)
+    requires { ⌜ NodeOn (now work) d k ⌝ }
+    requires { ⌜ (k < i) × (i < 2048) ⌝ }
+    requires { ⌜ (k < j) × (j < 2048) ⌝ }
+    ensures { λ _. ⌜ Boxed (now (work .entry)) (now (work .exit)) d k (around (boxOn (now (work .entry)) d i) (boxOn (now (work .entry)) d j)) ⌝ }
+{
+    for x in 0..d {
+        set_side_around(work, x, k, i, j);
+    }
+}
+
+// The length of node k's side on axis x.
+fn extent(work: &[u8], x: usize, k: usize) -> usize
+    requires { ⌜ SideIn (now work) x k ⌝ }
+    ensures { λ r. ⌜ (r ≡ long (sideOn (now (work .entry)) k x)) × (r < 65536) ⌝ }
+{
+    let l = low(work, x, k);
+    let h = high(work, x, k);
+    if l < h { h - l } else { 0 }
+}
+
+// The square of a number that is no larger than twice a coordinate.
+fn squared(x: usize) -> usize
+    requires { ⌜ x < 131072 ⌝ }
+    ensures { λ r. ⌜ Squared x r ⌝ }
+{
+    x * x
+}
+
+// G of node k's box.
+pub fn girth(work: &[u8], d: usize, k: usize) -> usize
+    requires { ⌜ NodeOn (now work) d k ⌝ }
+    ensures { λ r. ⌜ (r ≡ G (boxOn (now (work .entry)) d k)) × (r < 51539607552) ⌝ }
+{
+    let mut sum = 0;
+    for x in 0..d {
+        sum += squared(extent(work, x, k));
+    }
+    sum
+}
+
+// Twice the centre of node k's side on axis x.
+fn centre(work: &[u8], x: usize, k: usize) -> usize
+    requires { ⌜ SideIn (now work) x k ⌝ }
+    ensures { λ r. ⌜ (r ≡ twice-centre (sideOn (now (work .entry)) k x)) × (r < 131072) ⌝ }
+{
+    low(work, x, k) + high(work, x, k)
+}
+
+// How far two numbers are apart.
+fn apart(x: usize, y: usize) -> usize
+    ensures { λ r. ⌜ r ≡ gap x y ⌝ }
+{
+    if x < y { y - x } else { x - y }
+}
+
+// How far twice the centres of nodes j and k are apart on axis x.
+fn centres_apart(work: &[u8], x: usize, j: usize, k: usize) -> usize
+    requires { ⌜ SideIn (now work) x j ⌝ }
+    requires { ⌜ k < 2048 ⌝ }
+    ensures { λ r. ⌜ (r ≡ gapOn (now (work .entry)) j k x) × (r < 131072) ⌝ }
+{
+    apart(centre(work, x, j), centre(work, x, k))
+}
+
+// D of the boxes of nodes j and k.
+pub fn distance(work: &[u8], d: usize, j: usize, k: usize) -> usize
+    requires { ⌜ NodeOn (now work) d j ⌝ }
+    requires { ⌜ k < 2048 ⌝ }
+    ensures { λ r. ⌜ (r ≡ D (boxOn (now (work .entry)) d j) (boxOn (now (work .entry)) d k)) × (r < 51539607552) ⌝ }
+{
+    let mut sum = 0;
+    for x in 0..d {
+        sum += squared(centres_apart(work, x, j, k));
+    }
+    sum
+}
+
+// x²·y, for x one of b and 2b + a, and y one of G and D.
+fn weighed(x: usize, y: usize) -> usize
+    requires { ⌜ (x ≤ 80) × (y < 51539607552) ⌝ }
+    ensures { λ r. ⌜ r ≡ square x * y ⌝ }
+{
+    x * x * y
+}
+
+// Whether D, here far, is not 0 and b²·D >= (2b + a)²·G, here size.
+fn wide_enough(a: usize, b: usize, size: usize, far: usize) -> bool
+    requires { ⌜ Ratio a b ⌝ }
+    requires { ⌜ (size < 51539607552) × (far < 51539607552) ⌝ }
+    ensures { λ r. ⌜ r ≡ (not (eqb far 0) && leb (square (2 * b + a) * size) (square b * far)) ⌝ }
+{
+    if far == 0 {
+        return false;
+    }
+    weighed(2 * b + a, size) <= weighed(b, far)
+}
+
+// Whether nodes j and k are separated at the ratio a/b.
+pub fn is_separated(work: &[u8], d: usize, a: usize, b: usize, j: usize, k: usize) -> bool
+    requires { ⌜ NodeOn (now work) d j ⌝ }
+    requires { ⌜ k < 2048 ⌝ }
+    requires { ⌜ Ratio a b ⌝ }
+    ensures { λ r. ⌜ r ≡ separated a b (boxOn (now (work .entry)) d j) (boxOn (now (work .entry)) d k) ⌝ }
+{
+    let far = distance(work, d, j, k);
+    let size = greater(girth(work, d, j), girth(work, d, k));
+    wide_enough(a, b, size, far)
+}

@@ -1,0 +1,3 @@
+pub mod PairTurns
+pub mod SpanLaws
+pub mod RowLaws

@@ -1,0 +1,3 @@
+pub mod Checking
+pub mod Spans
+pub mod Rows

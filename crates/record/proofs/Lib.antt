@@ -1,0 +1,10 @@
+mod Exits
+pub mod Slices
+pub mod Answers
+pub mod NodesMeant
+pub mod PairsMeant
+mod NodeCases
+mod PairCases
+mod TakeCases
+pub mod PartLaws
+pub mod Takes

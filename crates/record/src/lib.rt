@@ -1,0 +1,281 @@
+// Records: cutting one into its parts, inspecting it, checking it, and handing back its sections.
+// Only `cut` knows how the bytes are laid out and that holes have two coordinates; what comes after it works on the parts.
+ghost use mathlib.Core.Path.{_≡_};
+ghost use Prim.Native.Nat.{_+_, _*_, _<_, _≤_};
+ghost use lib.ListN.{length};
+ghost use Rattle.slate.specs.Slate.{Grid};
+ghost use Rattle.paper.specs.Field.{ratio-ok};
+ghost use Rattle.paper.specs.Record.{holes-part, nodes-part, pairs-part};
+ghost use Rattle.paper.specs.Answers.{PartAt, Checks, HandsBack};
+ghost use Rattle.record.specs.Cutting.{CutSays, Begun, PartsOf, holes-slice, nodes-slice, pairs-slice};
+ghost use Rattle.record.specs.Inspecting.{InspectSays, TakeSays, Measured, Located};
+use field::Found;
+use pairs::Two;
+use paper::Checked;
+use paper::Refusal;
+
+// A record's ratio, its counts, and where its parts start.
+pub struct Parts {
+    pub a: usize,
+    pub b: usize,
+    pub n: usize,
+    pub m: usize,
+    pub holes: usize,
+    pub nodes: usize,
+    pub pairs: usize,
+}
+
+// Where a section of a record stands.
+pub struct Place {
+    pub start: usize,
+    pub size: usize,
+}
+
+// What cutting a record gives.
+pub enum Division {
+    Whole(Parts),
+    Bad(Refusal),
+}
+
+// What inspecting a record gives.
+pub enum Inspected {
+    Fine(Parts),
+    Refused(Refusal),
+}
+
+// Whether the ratio a/b is in range.
+fn ratio_ok(a: usize, b: usize) -> bool
+    ensures { λ r. ⌜ r ≡ ratio-ok a b ⌝ }
+{
+    1 <= a && a <= 64 && 1 <= b && b <= 8
+}
+
+// A byte as a number.
+fn wide(x: u8) -> usize
+    ensures { λ r. ⌜ (r ≡ x) × (r < 256) ⌝ }
+{
+    x as usize
+}
+
+// Cuts a record into its parts: the ratio, the counts and the length are tested, in document 01's order.
+pub fn cut(bytes: &[u8]) -> Division
+    ensures { λ r. ⌜ CutSays (now (bytes .entry)) r ⌝ }
+{
+    if bytes.len() < 4 {
+        return Division::Bad(Refusal::Short(4));
+    }
+    let a = wide(bytes[0]);
+    let b = wide(bytes[1]);
+    if !ratio_ok(a, b) {
+        return Division::Bad(Refusal::Ratio);
+    }
+    let n = words::get16(bytes, 2);
+    if n == 0 {
+        return Division::Bad(Refusal::None);
+    }
+    if 1024 < n {
+        return Division::Bad(Refusal::Many(n as u64));
+    }
+    cut_parts(bytes, a, b, n)
+}
+
+// The same from the node count on.
+fn cut_parts(bytes: &[u8], a: usize, b: usize, n: usize) -> Division
+    requires { ⌜ Begun (now bytes) a b n ⌝ }
+    ensures { λ r. ⌜ CutSays (now (bytes .entry)) r ⌝ }
+{
+    let len = bytes.len();
+    if len < 6 + 4 * n {
+        return Division::Bad(Refusal::Short((6 + 4 * n) as u64));
+    }
+    let nodes = words::get16(bytes, 4 + 4 * n);
+    if nodes != 2 * n - 1 {
+        return Division::Bad(Refusal::Count(nodes as u64));
+    }
+    if len < 6 + 12 * n {
+        return Division::Bad(Refusal::Short((6 + 12 * n) as u64));
+    }
+    let m = words::get32(bytes, 2 + 12 * n);
+    if n * (n - 1) / 2 < m {
+        return Division::Bad(Refusal::Count(m as u64));
+    }
+    let end = 6 + 12 * n + 4 * m;
+    if len < end {
+        return Division::Bad(Refusal::Short(end as u64));
+    }
+    if end < len {
+        return Division::Bad(Refusal::Over(len as u64));
+    }
+    Division::Whole(Parts {
+        a,
+        b,
+        n,
+        m,
+        holes: 4,
+        nodes: 6 + 4 * n,
+        pairs: 6 + 12 * n,
+    })
+}
+
+// The part of a record at a place.
+fn part_at(bytes: &[u8], at: usize, size: usize) -> &[u8]
+    requires { ⌜ at + size ≤ length (now bytes) ⌝ }
+    ensures { λ r. ⌜ PartAt (bytes .entry) r (record { start = at; size = size }) ⌝ }
+{
+    &bytes[at..at + size]
+}
+
+// The part that holds the holes, the nodes, the pairs.
+fn hole_part(bytes: &[u8], p: Parts) -> &[u8]
+    requires { ⌜ PartsOf (now bytes) p ⌝ }
+    ensures { λ r. ⌜ now r ≡ holes-slice (now (bytes .entry)) ⌝ }
+{
+    part_at(bytes, p.holes, 4 * p.n)
+}
+
+fn node_part(bytes: &[u8], p: Parts) -> &[u8]
+    requires { ⌜ PartsOf (now bytes) p ⌝ }
+    ensures { λ r. ⌜ now r ≡ nodes-slice (now (bytes .entry)) ⌝ }
+{
+    part_at(bytes, p.nodes, 4 * (2 * p.n - 1))
+}
+
+fn pair_part(bytes: &[u8], p: Parts) -> &[u8]
+    requires { ⌜ PartsOf (now bytes) p ⌝ }
+    ensures { λ r. ⌜ now r ≡ pairs-slice (now (bytes .entry)) ⌝ }
+{
+    part_at(bytes, p.pairs, 4 * p.m)
+}
+
+// Tests a record, in document 01's order, and leaves what it found on the slate: the tree, and for each node how many holes are under it, the
+// lowest of them, their box and their ranks. The questions build on this.
+pub fn inspect(bytes: &[u8], work: &mut [u8]) -> Inspected
+    ensures { λ r. ⌜ InspectSays (now (bytes .entry)) (now (work .entry)) (now (work .exit)) r ⌝ }
+{
+    if work.len() < 65536 {
+        return Inspected::Refused(Refusal::Work);
+    }
+    match cut(bytes) {
+        Division::Bad(x) => Inspected::Refused(x),
+        Division::Whole(p) => inspect_nodes(bytes, work, p),
+    }
+}
+
+// From the holes on: refusals 6, 11 and 12.
+fn inspect_nodes(bytes: &[u8], work: &mut [u8], p: Parts) -> Inspected
+    requires { ⌜ PartsOf (now bytes) p ⌝ }
+    requires { ⌜ Grid (now work) ⌝ }
+    ensures { λ r. ⌜ InspectSays (now (bytes .entry)) (now (work .entry)) (now (work .exit)) r ⌝ }
+{
+    let n = p.n;
+    let holes = hole_part(bytes, p);
+    let nodes = node_part(bytes, p);
+    if let Found::At(i) = field::repeated(holes, 2, n) {
+        return Inspected::Refused(Refusal::Twice(i as u64));
+    }
+    if let Found::At(k) = tree::load(work, nodes, n) {
+        return Inspected::Refused(Refusal::Tree(k as u64));
+    }
+    if let Found::At(k) = tree::loose(work, n) {
+        return Inspected::Refused(Refusal::Loose(k as u64));
+    }
+    tree::sum_up(work, holes, 2, n);
+    inspect_pairs(bytes, work, p)
+}
+
+// From the pairs on: refusals 13 and 14.
+fn inspect_pairs(bytes: &[u8], work: &mut [u8], p: Parts) -> Inspected
+    requires { ⌜ PartsOf (now bytes) p ⌝ }
+    requires { ⌜ Measured (now bytes) (now work) ⌝ }
+    ensures { λ r. ⌜ InspectSays (now (bytes .entry)) (now (work .entry)) (now (work .exit)) r ⌝ }
+{
+    let n = p.n;
+    let m = p.m;
+    let list = pair_part(bytes, p);
+    if let Found::At(k) = pairs::check_pairs(work, list, 2, p.a, p.b, n, m) {
+        return Inspected::Refused(Refusal::Pair(k as u64));
+    }
+    tree::rank(work, n);
+    if let Two::Both(i, j) = pairs::uncovered(work, list, n, m) {
+        return Inspected::Refused(Refusal::Cover((1024 * i + j) as u64));
+    }
+    Inspected::Fine(p)
+}
+
+// Inspects a record and wipes the slate: a taken record's parts, or why it is refused.
+fn taken_parts(bytes: &[u8], work: &mut [u8]) -> Inspected
+    ensures { λ r. ⌜ TakeSays (now (bytes .entry)) (now (work .entry)) (now (work .exit)) r ⌝ }
+{
+    let found = inspect(bytes, work);
+    slate::wipe(work);
+    found
+}
+
+// Takes a record exactly when it meets document 01's rules, and gives its holes and its pairs.
+pub fn check(bytes: &[u8], work: &mut [u8]) -> Checked
+    ensures { λ r. ⌜ Checks (now (bytes .entry)) r (now (work .entry)) (now (work .exit)) ⌝ }
+{
+    match taken_parts(bytes, work) {
+        Inspected::Refused(x) => Checked::Refused(x),
+        Inspected::Fine(p) => Checked::Taken(p.n as u64, p.m as u64),
+    }
+}
+
+// The place of the holes, of the nodes, of the pairs of a record, without their count; the empty place at the start of one that is refused.
+pub fn holes_place(bytes: &[u8], work: &mut [u8]) -> Place
+    ensures { λ r. ⌜ Located holes-part (now (bytes .entry)) (now (work .entry)) (now (work .exit)) r ⌝ }
+{
+    match taken_parts(bytes, work) {
+        Inspected::Refused(_) => Place { start: 0, size: 0 },
+        Inspected::Fine(p) => Place {
+            start: p.holes,
+            size: 4 * p.n,
+        },
+    }
+}
+
+pub fn nodes_place(bytes: &[u8], work: &mut [u8]) -> Place
+    ensures { λ r. ⌜ Located nodes-part (now (bytes .entry)) (now (work .entry)) (now (work .exit)) r ⌝ }
+{
+    match taken_parts(bytes, work) {
+        Inspected::Refused(_) => Place { start: 0, size: 0 },
+        Inspected::Fine(p) => Place {
+            start: p.nodes,
+            size: 4 * (2 * p.n - 1),
+        },
+    }
+}
+
+pub fn pairs_place(bytes: &[u8], work: &mut [u8]) -> Place
+    ensures { λ r. ⌜ Located pairs-part (now (bytes .entry)) (now (work .entry)) (now (work .exit)) r ⌝ }
+{
+    match taken_parts(bytes, work) {
+        Inspected::Refused(_) => Place { start: 0, size: 0 },
+        Inspected::Fine(p) => Place {
+            start: p.pairs,
+            size: 4 * p.m,
+        },
+    }
+}
+
+// The section itself: the part of the caller's record at that place.
+pub fn holes<'a>(bytes: &'a [u8], work: &mut [u8]) -> &'a [u8]
+    ensures { λ r. ⌜ HandsBack holes-part (bytes .entry) r (now (work .entry)) (now (work .exit)) ⌝ }
+{
+    let p = holes_place(bytes, work);
+    part_at(bytes, p.start, p.size)
+}
+
+pub fn nodes<'a>(bytes: &'a [u8], work: &mut [u8]) -> &'a [u8]
+    ensures { λ r. ⌜ HandsBack nodes-part (bytes .entry) r (now (work .entry)) (now (work .exit)) ⌝ }
+{
+    let p = nodes_place(bytes, work);
+    part_at(bytes, p.start, p.size)
+}
+
+pub fn pairs<'a>(bytes: &'a [u8], work: &mut [u8]) -> &'a [u8]
+    ensures { λ r. ⌜ HandsBack pairs-part (bytes .entry) r (now (work .entry)) (now (work .exit)) ⌝ }
+{
+    let p = pairs_place(bytes, work);
+    part_at(bytes, p.start, p.size)
+}

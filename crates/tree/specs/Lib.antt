@@ -1,0 +1,5 @@
+pub mod Standing
+pub mod Steps
+pub mod Loading
+pub mod Summing
+pub mod Ranking

@@ -1,0 +1,38 @@
+/* Antlophis: records of pinhole fields, for the press controller. Link with libpress.a.
+ *
+ * Every call accepts all bytes and always returns. Buffers of one call must not overlap. A NULL pointer is allowed only with length 0.
+ * The work area is lent: at least 65,536 bytes, whatever they hold. When a call returns, all of it is zero.
+ * Input is only read. */
+#ifndef ANTLOPHIS_H
+#define ANTLOPHIS_H
+
+#include <stddef.h>
+#include <stdint.h>
+
+#ifdef __cplusplus
+extern "C" {
+#endif
+
+/* number 0: done, with the values the call gives; else the refusal's number, with its value in first. A field not used is 0. */
+typedef struct {
+    uint64_t number, first, second, third;
+} antlophis_answer;
+
+/* A part of the caller's record: length bytes from start on. */
+typedef struct {
+    uint64_t start, length;
+} antlophis_part;
+
+/* Takes a record exactly when it meets document 01's record rules: first = holes, second = pairs. */
+antlophis_answer antlophis_check(const uint8_t *record, size_t record_len, uint8_t *work, size_t work_len);
+
+/* The holes, the nodes, the pairs of a record, without their count; the empty part at the start of a record that is refused. */
+antlophis_part antlophis_holes(const uint8_t *record, size_t record_len, uint8_t *work, size_t work_len);
+antlophis_part antlophis_nodes(const uint8_t *record, size_t record_len, uint8_t *work, size_t work_len);
+antlophis_part antlophis_pairs(const uint8_t *record, size_t record_len, uint8_t *work, size_t work_len);
+
+#ifdef __cplusplus
+}
+#endif
+
+#endif
