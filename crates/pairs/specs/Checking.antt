@@ -5,10 +5,9 @@ use mathlib.Core.List.{List}
 use Prim.Native.Nat.{ℕ, _+_, _*_, _<_, _≤_}
 use lib.ListN.{length}
 use Rattle.slate.specs.Slate.{Grid}
-use Rattle.paper.specs.Field.{Ratio}
 use Rattle.paper.specs.Separation.{Separated}
 use Rattle.paper.specs.Record.{nodes-of, two-numbers-at}
-use Rattle.field.specs.Boxes.{Axes, boxOn}
+use Rattle.field.specs.Boxes.{boxOn}
 
 -- the slate has a tree of n holes, and there are m pairs in a list of bytes
 pub record PairsIn (w ps : List ℕ) (n m : ℕ) : Type 0 where

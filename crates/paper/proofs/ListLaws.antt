@@ -8,7 +8,7 @@ use native.Mathlib.Omega.{arith}
 use lib.Dec.{eqb, leb, ltb}
 use lib.ListN.{length, getD}
 use borrow.Author.Tests.{eqb-true, eqb-false, eq-eqb, leb-true, leb-false, ltb-true}
-use Rattle.paper.specs.Lists.{keep, count, some-of, first-of, joined, same, has, from, below, twos}
+use Rattle.paper.specs.Lists.{count, some-of, first-of, joined, same, has, from}
 
 -- a property of what a test picks, by the two cases, each with what the test then said
 pub by-case : {A : Type 0} (P : A → Type 0) (t : Bool) {x y : A} → (t ≡ true → P x) → (t ≡ false → P y) → P (elim t [ true ↦ x | false ↦ y ])

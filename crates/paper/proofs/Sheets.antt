@@ -2,7 +2,7 @@
 -- through. Assumes nothing.
 use mathlib.Core.Path.{_≡_, refl}
 use mathlib.Core.Bool.{Bool, true, false}
-use mathlib.Core.List.{List, [], _∷_, _++_, map}
+use mathlib.Core.List.{List, [], _∷_, map}
 use Prim.Native.Nat.{ℕ, _+_, _*_, max}
 use lib.ListN.{take, set}
 use Rattle.words.specs.Words.{be, bytes}
@@ -11,7 +11,7 @@ use Rattle.paper.specs.Field.{Hole, Field, hole-bytes, listAt, holeAt, h
 use Rattle.paper.specs.Tree.{around, boxOf, longest, axis, number, under, cut, treeFrom, boxAt, first, treeOf}
 use Rattle.paper.specs.Separation.{G, C, D, separated, far, side}
 use Rattle.paper.specs.Pairs.{compared, comparisons, pairs, pairsOf, numbers}
-use Rattle.paper.specs.Record.{View, entries, leaf-mark, written, built, Part, holes-part, nodes-part, pairs-part, viewOf}
+use Rattle.paper.specs.Record.{entries, leaf-mark, written, built, holes-part, nodes-part, pairs-part, viewOf}
 use Rattle.paper.specs.Rules.{repeats, names, holds, part-ok, node-ok, loose, under-from, under-node, pair-ok, covers, covered-once}
 use Rattle.paper.specs.Refusals.{Answer, refused, given, when_refuse_, in-order_else_, first-uncovered, build, check}
 use Rattle.paper.specs.Questions.{apart, nearer, nearest, closest, keeps, pitch, lowest, link, links, section}

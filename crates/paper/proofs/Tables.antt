@@ -3,7 +3,7 @@
 use mathlib.Core.Path.{_≡_, refl}
 use mathlib.Core.Bool.{Bool, true, false}
 use mathlib.Core.List.{List, [], _∷_, _++_}
-use Rattle.paper.specs.Refusals.{Answer, refused, given, Line, when_refuse_, in-order_else_, number, value}
+use Rattle.paper.specs.Refusals.{Answer, refused, Line, when_refuse_, in-order_else_, number, value}
 use Rattle.paper.specs.declared.Refusal.{Refusal}
 use Rattle.paper.proofs.ListLaws.{by-case₂}
 

@@ -2,11 +2,11 @@
 -- the lengths of work area and output, never of what these held. Assumes nothing.
 use mathlib.Core.Path.{_≡_}
 use mathlib.Core.Bool.{Bool, true, false}
-use mathlib.Core.List.{List, [], _∷_, _++_}
+use mathlib.Core.List.{List, _++_}
 use Prim.Native.Nat.{ℕ, _+_, _-_}
 use denote.Ref.{RefT}
 use lib.ListN.{length, replicate, take, drop}
-use Rattle.paper.specs.Record.{Part, holes-part, nodes-part, pairs-part}
+use Rattle.paper.specs.Record.{Part}
 use Rattle.paper.specs.Refusals.{number, value, Answer, refused, given, build, check}
 use Rattle.paper.specs.Questions.{closest, pitch, links, section}
 use Rattle.paper.specs.declared.Refusal.{Refusal}

@@ -1,14 +1,14 @@
 -- Document 01, "Program": from the bytes of standard input to the bytes that are printed. Assumes nothing.
-use mathlib.Core.Bool.{Bool, true, false}
+use mathlib.Core.Bool.{true, false}
 use mathlib.Core.List.{List, [], _∷_, _++_}
 use Prim.Native.Nat.{ℕ, zero, suc, _+_, _/_, _%_}
-use Prim.Native.Char.{Char, code}
+use Prim.Native.Char.{code}
 use Prim.Native.String.{String, [] as no-text, _∷_ as letter}
 use lib.Dec.{ltb, eqb}
 use lib.ListN.{length}
 use Rattle.paper.specs.Field.{least-work}
 use Rattle.paper.specs.Refusals.{Answer, refused, given, in-order_else_, too-long, check}
-use Rattle.paper.specs.Questions.{after, closest}
+use Rattle.paper.specs.Questions.{closest}
 
 -- a text as bytes
 unfoldable pub text : String → List ℕ

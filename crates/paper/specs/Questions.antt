@@ -1,14 +1,13 @@
 -- Document 01, "Questions over a taken record". Assumes nothing.
 use mathlib.Core.Path.{_≡_}
 use mathlib.Core.Bool.{Bool, true, false, not}
-use mathlib.Core.List.{List, [], _∷_, _++_}
-use Prim.Native.Nat.{ℕ, _+_, _*_, min, max, _≤_, _<_}
-use lib.Dec.{leb, ltb, eqb}
-use lib.ListN.{getD, length}
-use Rattle.words.specs.Words.{bytes}
+use mathlib.Core.List.{List, [], _∷_}
+use Prim.Native.Nat.{ℕ, _*_, min, max, _≤_, _<_}
+use lib.Dec.{ltb, eqb}
+use lib.ListN.{length}
 use Rattle.paper.specs.Lists.{some-of, first-of, joined, twos}
 use Rattle.paper.specs.Field.{Field, hole, square, distance²}
-use Rattle.paper.specs.Record.{View, Part, holes-part, nodes-part, pairs-part, two-numbers, viewOf}
+use Rattle.paper.specs.Record.{View, Part, two-numbers, viewOf}
 use Rattle.paper.specs.Rules.{hole-count, pair-count, under-node}
 use Rattle.paper.specs.Refusals.{Answer, refused, given, in-order_else_, single, low, room, check}
 

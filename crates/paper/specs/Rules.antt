@@ -5,10 +5,10 @@ use mathlib.Core.Logic.{_≢_, _⊎_}
 use mathlib.Core.Bool.{Bool, true, false, _&&_, _||_, not}
 use mathlib.Core.List.{List, [], _∷_, _++_, List·Memᴰ}
 use Prim.Native.Nat.{ℕ, zero, suc, _*_, _-_, _/_, _≤_, _<_}
-use lib.Dec.{leb, ltb, eqb}
+use lib.Dec.{ltb, eqb}
 use lib.ListN.{getD, length}
 use Rattle.paper.specs.Lists.{some-of, count, same, has, below}
-use Rattle.paper.specs.Field.{Field, Hole, hole, Ratio, most-holes}
+use Rattle.paper.specs.Field.{Field, hole, Ratio, most-holes}
 use Rattle.paper.specs.Tree.{Box, boxAt}
 use Rattle.paper.specs.Separation.{separated, Separated}
 use Rattle.paper.specs.Record.{View, leaf-mark, nodes-of, holes-in, nodes-in, pairs-in, whole, viewOf}

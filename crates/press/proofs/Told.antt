@@ -1,10 +1,10 @@
 -- The numbers at each return are those of the answer. Assumes nothing.
-use mathlib.Core.Path.{_≡_, refl, sym, _∙_}
+use mathlib.Core.Path.{_≡_, refl}
 use mathlib.Core.List.{List}
 use Prim.Native.Nat.{ℕ}
 use lib.ListN.{length}
 use Rattle.paper.specs.Refusals.{number, value, check}
-use Rattle.paper.specs.Answers.{refuses, checked, Checks}
+use Rattle.paper.specs.Answers.{refuses, Checks}
 use Rattle.paper.specs.declared.Refusal.{Refusal}
 use Rattle.paper.specs.declared.Checked.{Checked}
 use Rattle.paper.specs.declared.Checked.the-variants as K

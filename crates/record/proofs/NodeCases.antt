@@ -1,7 +1,7 @@
 -- What `inspect_nodes` asks of each step and answers at each return, over plain variables: the steps' findings are the record's. Assumes nothing.
-use mathlib.Core.Path.{_≡_, refl, sym, _∙_}
+use mathlib.Core.Path.{_≡_, refl, _∙_}
 use mathlib.Core.List.{List}
-use Prim.Native.Nat.{ℕ, _+_, _*_, _<_, _≤_}
+use Prim.Native.Nat.{ℕ, _<_}
 use native.Mathlib.Omega.{arith}
 use lib.ListN.{length}
 use Rattle.slate.specs.Columns.{MARKS}
@@ -13,7 +13,7 @@ use Rattle.paper.specs.Refusals.{refused, check}
 use Rattle.paper.specs.declared.Refusal.the-variants as R
 use Rattle.theory.specs.Conditions.{First}
 use Rattle.theory.specs.Conditions as due
-use Rattle.field.specs.Boxes.{Axes, HolesIn}
+use Rattle.field.specs.Boxes.{HolesIn}
 use Rattle.field.specs.Found.{Finds}
 use Rattle.field.specs.declared.Found.{Found}
 use Rattle.field.specs.declared.Found.the-variants.{At, Nothing}

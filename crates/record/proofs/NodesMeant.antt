@@ -1,16 +1,16 @@
 -- The holes and the nodes of a record, by what the steps found in its parts: which refusal is due, or that the rules of both are met and the sums
 -- stand on the slate. hs and ns are the parts of the record r that hold the holes and the nodes. Assumes nothing.
 use mathlib.Core.Path.{_≡_, refl, sym, ap, _∙_}
-use mathlib.Core.Logic.{_↔_, _≢_}
-use mathlib.Core.List.{List, [], _∷_}
+use mathlib.Core.Logic.{_↔_}
+use mathlib.Core.List.{List}
 use Prim.Native.Nat.{ℕ, _+_, _*_, _<_, _≤_}
 use native.Mathlib.Omega.{arith}
 use lib.ListN.{length, getD}
-use Rattle.slate.specs.Columns.{FIRST, SECOND, HOLES, LOWEST, MARKS}
+use Rattle.slate.specs.Columns.{FIRST, SECOND, MARKS}
 use Rattle.slate.specs.Slate.{cell, Grid}
-use Rattle.paper.specs.Field.{hole, holesAt, listAt}
-use Rattle.paper.specs.Record.{View, holes-in, nodes-of, two-numbers-at, viewOf}
-use Rattle.paper.specs.Rules.{hole-count, node-count, node, Repeats, Names, NodeRule, under-node}
+use Rattle.paper.specs.Field.{holesAt, listAt}
+use Rattle.paper.specs.Record.{holes-in, nodes-of, two-numbers-at, viewOf}
+use Rattle.paper.specs.Rules.{node-count, Repeats, Names, NodeRule, under-node}
 use Rattle.paper.specs.Tree.{boxAt}
 use Rattle.paper.specs.Refusals.{Least}
 use Rattle.paper.specs.Questions.{lowest}
@@ -25,11 +25,10 @@ use Rattle.theory.proofs.Orders.{loose-is}
 use Rattle.theory.proofs.Named.{not-loose}
 use Rattle.theory.proofs.Reading.{length-holes}
 use Rattle.theory.proofs.RoundTrip.{view-holes}
-use Rattle.field.specs.Found.{Finds}
-use Rattle.field.specs.declared.Found.the-variants.{At, Nothing}
+use Rattle.field.specs.declared.Found.the-variants.{Nothing}
 use Rattle.tree.specs.Standing.{treeOn, treeIn, Stands}
 use Rattle.tree.specs.Steps.{Loading, Summed}
-use Rattle.tree.proofs.Views.{on-holes, in-holes, on-node, in-node, same-tree}
+use Rattle.tree.proofs.Views.{in-holes, same-tree}
 use Rattle.record.specs.Inspecting.{Measured}
 
 -- the least number with a property, of two that agree

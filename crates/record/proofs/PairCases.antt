@@ -4,14 +4,11 @@ use mathlib.Core.List.{List}
 use Prim.Native.Nat.{ℕ, _+_, _*_, _-_, _/_, _<_, _≤_}
 use native.Mathlib.Nat.{mul-le-mul}
 use native.Mathlib.Omega.{arith}
-use lib.ListN.{length, getD}
-use Rattle.slate.specs.Slate.{Grid}
-use Rattle.paper.specs.Field.{Ratio, least-work}
+use lib.ListN.{length}
+use Rattle.paper.specs.Field.{Ratio}
 use Rattle.paper.specs.Record.{holes-in, pairs-in, two-numbers-at, viewOf}
-use Rattle.paper.specs.Refusals.{Least, LeastTwo}
 use Rattle.paper.specs.declared.Refusal.the-variants as R
 use Rattle.theory.proofs.Checker.{record-is, taken-is}
-use Rattle.field.specs.Boxes.{Axes}
 use Rattle.field.specs.Found.{Finds}
 use Rattle.field.specs.declared.Found.{Found}
 use Rattle.field.specs.declared.Found.the-variants.{At, Nothing}

@@ -2,28 +2,27 @@
 -- pair's boxes on the slate are the boxes of its nodes; a hole is under a node exactly where its rank is in the node's span, so that the pairs cover two
 -- holes as often by ranks as by the record's rule. Assumes nothing.
 use mathlib.Core.Path.{_≡_, refl, sym, ap, _∙_}
-use mathlib.Core.Logic.{_↔_, _≢_}
-use mathlib.Core.Bool.{Bool, true, false, _&&_}
-use mathlib.Core.List.{List, [], _∷_, List·Memᴰ}
-use Prim.Native.Nat.{ℕ, _+_, _*_, _-_, _/_, _<_, _≤_}
+use mathlib.Core.Logic.{_↔_}
+use mathlib.Core.Bool.{Bool, true, _&&_}
+use mathlib.Core.List.{List, []}
+use Prim.Native.Nat.{ℕ, _+_, _*_, _-_, _<_, _≤_}
 use native.Mathlib.Nat.{zero-add}
 use native.Mathlib.Omega.{arith}
-use lib.Dec.{leb, ltb, eqb}
+use lib.Dec.{leb, ltb}
 use lib.ListN.{length, getD}
 use borrow.Author.Tests.{leb-true, le-leb, ltb-true, ltb-false, lt-ltb, eqb-true, eq-eqb}
-use Rattle.words.specs.Area.{word}
 use Rattle.words.proofs.AreaLaws.{run-same}
-use Rattle.slate.specs.Columns.{HOLES, LOWEST, FROM, ORDER, RANK, MARKS, LOW}
-use Rattle.slate.specs.Slate.{cell, Grid}
+use Rattle.slate.specs.Columns.{HOLES, LOWEST, FROM, ORDER, RANK, MARKS}
+use Rattle.slate.specs.Slate.{cell}
 use Rattle.paper.specs.Lists.{below, count, has}
 use Rattle.paper.specs.Field.{hole, listAt}
 use Rattle.paper.specs.Tree.{Box}
 use Rattle.paper.specs.Separation.{Separated}
-use Rattle.paper.specs.Record.{View, holes-in, pairs-in, nodes-of, two-numbers-at, viewOf}
+use Rattle.paper.specs.Record.{holes-in, pairs-in, nodes-of, two-numbers-at, viewOf}
 use Rattle.paper.specs.Rules.{hole-count, node-count, pair-count, pair, Repeats, Names, NodeRule, PairRule, under-node, Under, covers, covered-once, OnePair}
 use Rattle.paper.specs.Refusals.{Least, LeastTwo}
 use Rattle.paper.proofs.ListLaws.{both, cases, not-so, and-is, has-is}
-use Rattle.theory.specs.Trees.{Each, Alike}
+use Rattle.theory.specs.Trees.{Each}
 use Rattle.theory.specs.Conditions.{First, here, later}
 use Rattle.theory.specs.Conditions as due
 use Rattle.theory.proofs.Alike.{alike-rules, alike-under}
@@ -36,13 +35,12 @@ use Rattle.theory.proofs.Checker.{stable, turned, Meant}
 use Rattle.theory.proofs.RoundTrip.{view-holes, view-pairs, view-flat}
 use Rattle.theory.proofs.Grown.{under-below}
 use Rattle.theory.proofs.Separation.{sets-disjoint}
-use Rattle.field.specs.Boxes.{boxOn}
 use Rattle.field.proofs.Boxes.{box-high}
 use Rattle.tree.specs.Standing.{treeOn, Stands}
 use Rattle.tree.specs.Steps.{Counted, Ranked}
 use Rattle.tree.proofs.Ranked.{ranked-tree, ranked-holes, rank-under, under-rank}
 use Rattle.tree.proofs.Views.{same-tree}
-use Rattle.pairs.specs.Checking.{PairsIn, PairOn}
+use Rattle.pairs.specs.Checking.{PairOn}
 use Rattle.pairs.specs.Spans.{spans, inSpan, coversOn, coverings, Ready, Covering}
 use Rattle.pairs.specs.declared.Two.the-variants.{Neither}
 use Rattle.record.specs.Inspecting.{Measured, Filled}

@@ -1,6 +1,6 @@
 -- What `inspect`, `check` and the sections answer at each return, over plain variables: what `cut` and `inspect` said is the checker's answer, and the
 -- parts that `cut` named are inside the record. Assumes nothing.
-use mathlib.Core.Path.{_≡_, refl, ap, ap₂, _∙_, sym}
+use mathlib.Core.Path.{_≡_, refl, ap, sym}
 use mathlib.Core.List.{List}
 use Prim.Native.Nat.{ℕ, _+_, _*_, _-_, _≤_, _<_}
 use native.Mathlib.Nat.{mul-le-mul}
@@ -8,17 +8,16 @@ use native.Mathlib.Omega.{arith}
 use mir.Syntax.{w64}
 use mir.Val.{Fits}
 use denote.Ref.{RefT}
-use lib.ListN.{length, replicate, take, drop}
-use Rattle.slate.specs.Slate.{Grid}
-use Rattle.paper.specs.Record.{Part, holes-part, nodes-part, pairs-part, holes-in, pairs-in}
-use Rattle.paper.specs.Refusals.{refused, given, check}
+use lib.ListN.{length, replicate}
+use Rattle.paper.specs.Record.{Part, holes-part, nodes-part, pairs-part, holes-in}
+use Rattle.paper.specs.Refusals.{refused}
 use Rattle.paper.specs.Questions.{section}
-use Rattle.paper.specs.Answers.{refuses, Checks, PartAt, HandsBack}
+use Rattle.paper.specs.Answers.{Checks, PartAt, HandsBack}
 use Rattle.paper.specs.declared.Refusal.{Refusal}
 use Rattle.paper.specs.declared.Refusal.the-variants as R
 use Rattle.paper.specs.declared.Checked.the-variants as K
 use Rattle.record.specs.Cutting.{PartsOf, CutSays}
-use Rattle.record.specs.Inspecting.{InspectSays, Refusing, TakeSays, Taking, Located}
+use Rattle.record.specs.Inspecting.{InspectSays, Refusing, TakeSays, Located}
 use Rattle.record.specs.declared.Parts.{Parts}
 use Rattle.record.specs.declared.Place.{Place}
 use Rattle.record.specs.declared.Division.{Division}

@@ -1,5 +1,5 @@
 -- Demand 3 at the level of the call: whoever made a record, `check` takes it exactly when it meets the record rules. Assumes nothing.
-use mathlib.Core.Path.{_≡_, refl, sym, _∙_}
+use mathlib.Core.Path.{_≡_, refl, sym}
 use mathlib.Core.Logic.{_↔_}
 use mathlib.Core.List.{List}
 use Prim.Native.Nat.{ℕ, _≤_}

@@ -1,12 +1,12 @@
 -- What the rules say of a node, and what is under it, depends on the nodes and on the number of holes alone: it is the same in two views of one
 -- tree. So what is shown of a tree on the work area holds of the record's. Assumes nothing.
-use mathlib.Core.Path.{_≡_, refl, sym, ap, ap₂, _∙_}
+use mathlib.Core.Path.{_≡_, sym, ap, ap₂, _∙_}
 use mathlib.Core.Logic.{_⊎_, inl, inr, ⊎-elim}
-use mathlib.Core.List.{List, [], _∷_, _++_}
+use mathlib.Core.List.{_++_}
 use Prim.Native.Nat.{ℕ, _<_}
 use native.Mathlib.Omega.{arith}
 use Rattle.paper.specs.Record.{View}
-use Rattle.paper.specs.Rules.{hole-count, node-count, node, Leaf, Names, LeafRule, PartRule, ForkRule, NodeRule, under-node}
+use Rattle.paper.specs.Rules.{node-count, node, Leaf, Names, PartRule, NodeRule, under-node}
 use Rattle.theory.specs.Trees.{Alike}
 use Rattle.theory.proofs.Grown.{parts-first, under-leaf, under-fork}
 

@@ -1,12 +1,11 @@
 -- Build, then check: the checker takes every record that the builder finishes, and it reads back to the same ratio, field, tree and list. A
 -- finished build's holes are few, distinct and in range, so what the record says fits its bytes and meets the rules. Assumes nothing.
 use mathlib.Core.Path.{_≡_, refl, sym, ap, _∙_}
-use mathlib.Core.Logic.{_↔_, _≢_}
-use mathlib.Core.List.{List, [], _∷_, map}
+use mathlib.Core.List.{List}
 use Prim.Native.Nat.{ℕ, _+_, _*_, _-_, _/_, _%_, _≤_, _<_}
 use native.Mathlib.Nat.{mul-le-mul}
 use native.Mathlib.Omega.{arith}
-use lib.ListN.{length, getD, length-map}
+use lib.ListN.{length, length-map}
 use borrow.Author.Tests.{eq-eqb}
 use Rattle.words.specs.Words.{Bytes}
 use Rattle.paper.specs.Lists.{joined}
@@ -14,10 +13,10 @@ use Rattle.paper.specs.Field.{Field, hole-bytes, holesAt, Ratio, most-holes, le
 use Rattle.paper.specs.Tree.{Tree, leaf, fork, number, treeOf}
 use Rattle.paper.specs.Separation.{far, side}
 use Rattle.paper.specs.Pairs.{pairsOf, numbers}
-use Rattle.paper.specs.Record.{View, leaf-mark, entries, written, built, nodes-of, whole, holes-in, nodes-in, pairs-in, viewOf}
+use Rattle.paper.specs.Record.{View, leaf-mark, entries, written, built, nodes-of, holes-in, pairs-in, viewOf}
 use Rattle.paper.specs.Rules.{repeats, Record}
 use Rattle.theory.proofs.Statements.{ratio-is, repeats-is}
-use Rattle.paper.specs.Refusals.{Answer, given, build, check}
+use Rattle.paper.specs.Refusals.{given, build, check}
 use Rattle.theory.specs.Trees.{Each, Met, leaves, times, grow}
 use Rattle.theory.specs.Conditions.{NoneDue, all, _also_}
 use Rattle.theory.specs.Conditions as due

@@ -1,38 +1,19 @@
 -- The checker means the rules: it takes a record exactly when the record meets document 01's record rules, as statements. Every refusal not
 -- due gives one rule, and every rule keeps its refusal from being due; refusal 12 is kept out by the node rules alone. Assumes nothing.
-use mathlib.Core.Path.{_≡_, refl, sym, ap, ap₂, _∙_}
+use mathlib.Core.Path.{_≡_, refl, ap, ap₂}
 use mathlib.Core.Logic.{_↔_, _≢_, _⊎_, inl, inr, ⊎-elim}
-use mathlib.Core.Bool.{Bool, true, false}
+use mathlib.Core.Bool.{Bool, true}
 use mathlib.Core.List.{List, [], _∷_, _++_}
 use Prim.Native.Nat.{ℕ, _+_, _*_, _-_, _/_, _≤_, _<_}
 use native.Mathlib.Omega.{arith}
-use lib.Dec.{ltb, eqb}
+use lib.Dec.{ltb}
 use lib.ListN.{getD, length}
-use borrow.Author.Tests.{ltb-true, ltb-false, eqb-true, eqb-false}
-use Rattle.paper.specs.Lists.{some-of}
-use Rattle.paper.specs.Field.{Field, hole, ratio-ok, Ratio, most-holes, least-work}
+use borrow.Author.Tests.{ltb-true, ltb-false}
+use Rattle.paper.specs.Field.{hole, Ratio, most-holes, least-work}
 use Rattle.paper.specs.Record.{View, holes-at, nodes-at, pairs-at, whole, holes-in, nodes-in, pairs-in, nodes-of, viewOf}
-use Rattle.paper.specs.Rules.{
-  hole-count,
-  node-count,
-  pair-count,
-  pair,
-  repeats,
-  Repeats,
-  names,
-  Names,
-  node-ok,
-  NodeRule,
-  loose,
-  pair-ok,
-  PairRule,
-  covered-once,
-  Covers,
-  OnePair,
-  Record,
-}
-use Rattle.paper.specs.Refusals.{Answer, refused, given, when_refuse_, least, Least, LeastTwo, bad-node, bad-pair, uncovered, check}
-use Rattle.paper.proofs.ListLaws.{both, cases, not-so, not-is}
+use Rattle.paper.specs.Rules.{hole-count, node-count, pair-count, pair, repeats, NodeRule, loose, PairRule, Covers, OnePair, Record}
+use Rattle.paper.specs.Refusals.{given, when_refuse_, least, Least, bad-node, bad-pair, uncovered, check}
+use Rattle.paper.proofs.ListLaws.{both, cases}
 use Rattle.theory.proofs.Statements.{some-below, some-two, ratio-is, repeats-is, node-is, pair-is, covered-is}
 use Rattle.theory.specs.Conditions.{Condition, NoneDue, all, _also_}
 use Rattle.theory.specs.Conditions as due

@@ -4,15 +4,15 @@ use mathlib.Core.Path.{_≡_, refl, sym, ap, _∙_, subst}
 use mathlib.Core.Bool.{Bool, true, false, not}
 use mathlib.Core.List.{List, [], _∷_, _++_, map}
 use Prim.Native.Nat.{ℕ, zero, suc, _+_, _*_, _≤_, _<_}
-use native.Mathlib.Nat.{zero-add, add-assoc, mul-zero, le-refl, le-of-eq}
+use native.Mathlib.Nat.{mul-zero, le-refl}
 use native.Mathlib.Omega.{arith}
-use lib.Dec.{eqb, ltb}
+use lib.Dec.{eqb}
 use lib.ListN.{length, getD, length-append}
-use borrow.Author.Tests.{eqb-true, eqb-false, eq-eqb, ne-eqb, ltb-true, ltb-false}
+use borrow.Author.Tests.{eqb-true, eqb-false}
 use Rattle.words.specs.Words.{Bytes}
 use Rattle.paper.specs.Lists.{keep, joined, from, below}
 use Rattle.paper.proofs.ListLaws.{by-case, cases}
-use Rattle.theory.specs.Trees.{Each, one-if, often}
+use Rattle.theory.specs.Trees.{Each}
 
 module _ {A : Type 0} where
   pub each : {P : A → Type 0} → ((x : A) → P x) → (xs : List A) → Each P xs

@@ -1,31 +1,30 @@
 -- The tree and the pairs of a field without repeats, for any number of coordinates: what is shown of every tree and of any separation test holds
 -- of a field's, since two different holes are always separated and only a leaf has no side. Assumes nothing.
-use mathlib.Core.Path.{_≡_, refl, sym, ap, _∙_}
+use mathlib.Core.Path.{_≡_, refl, ap, _∙_}
 use mathlib.Core.Logic.{_≢_}
-use mathlib.Core.Bool.{Bool, true, false}
+use mathlib.Core.Bool.{Bool, true}
 use mathlib.Core.List.{List, [], _∷_, map}
-use Prim.Native.Nat.{ℕ, suc, _+_, _*_, _-_, _/_, _≤_, _<_}
-use native.Mathlib.Omega.{arith}
-use lib.ListN.{length, getD, length-map, List·getD-map}
+use Prim.Native.Nat.{ℕ, suc, _*_, _-_, _/_, _≤_, _<_}
+use lib.ListN.{length, length-map, List·getD-map}
 use borrow.Author.Tests.{eq-eqb}
 use Rattle.paper.specs.Lists.{count}
 use Rattle.paper.specs.Field.{Field}
-use Rattle.paper.specs.Tree.{Tree, leaf, fork, number, under, treeOf}
+use Rattle.paper.specs.Tree.{Tree, leaf, number, under, treeOf}
 use Rattle.paper.specs.Separation.{far, side}
 use Rattle.paper.specs.Pairs.{comparisons, pairs, pairsOf, numbers}
-use Rattle.paper.specs.Record.{View, leaf-mark, entries, built, nodes-of}
-use Rattle.paper.specs.Rules.{hole-count, node-count, pair-count, pair, NodeRule, PairRule, under-node, boxed, covers, covered-once, OnePair}
+use Rattle.paper.specs.Record.{leaf-mark, built, nodes-of}
+use Rattle.paper.specs.Rules.{node-count, pair-count, pair, NodeRule, PairRule, under-node, covers, covered-once, OnePair}
 use Rattle.paper.proofs.ListLaws.{cases}
 use Rattle.theory.proofs.Statements.{separated-is, covered-is}
-use Rattle.theory.specs.Trees.{Each, leaves, grow}
+use Rattle.theory.specs.Trees.{Each, grow}
 use Rattle.theory.proofs.EachLaws.{each-map, each-map₂, each-at}
-use Rattle.theory.proofs.Subtrees.{Sub, whole}
+use Rattle.theory.proofs.Subtrees.{Sub}
 use Rattle.theory.proofs.Covering.{parts}
 use Rattle.theory.proofs.PairRules.{pairs-far}
 use Rattle.theory.proofs.Pairing.{Regular, pairs-at-most, pairs-cover}
 use Rattle.theory.proofs.Counting.{comparisons-are}
-use Rattle.theory.proofs.PairsFit.{pairs-sub, pairs-numbers}
-use Rattle.theory.proofs.Fields.{Distinct, leaf-side, leaves-far, leaves-tree, nodes-tree, met-tree, once-tree, times-tree, fork-tree-side}
+use Rattle.theory.proofs.PairsFit.{pairs-sub}
+use Rattle.theory.proofs.Fields.{Distinct, leaf-side, leaves-far, leaves-tree, met-tree, once-tree, times-tree, fork-tree-side}
 use Rattle.theory.proofs.Numbering.{under-sub, number-sub, grow-back, node-rule}
 use Rattle.theory.proofs.Checker.{Meant}
 

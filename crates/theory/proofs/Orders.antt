@@ -1,34 +1,18 @@
 -- Every refusal is answered exactly when its condition holds, as a statement, and none before it in order does: each line of a table agrees
 -- with its condition, and tables that agree line by line answer alike. Assumes nothing.
 use mathlib.Core.Path.{_≡_, refl, sym, ap, ap₂, _∙_}
-use mathlib.Core.Logic.{_↔_, _≢_, _⊎_, inl, inr, ⊎-elim}
+use mathlib.Core.Logic.{_↔_}
 use mathlib.Core.Bool.{Bool, true, false, _&&_, not}
-use mathlib.Core.List.{List, [], _∷_, _++_, append-assoc}
+use mathlib.Core.List.{List, [], _∷_, _++_}
 use Prim.Native.Nat.{ℕ, _+_, _*_, _-_, _/_, _%_, _≤_, _<_}
 use native.Mathlib.Omega.{arith}
 use lib.Dec.{leb, ltb, eqb}
 use lib.ListN.{getD, length}
 use borrow.Author.Tests.{leb-true, le-leb, ltb-true, lt-ltb, eqb-true, eq-eqb, ltb-false}
-use Rattle.paper.specs.Lists.{some-of, first-of, joined, below, twos}
-use Rattle.paper.specs.Field.{Field, holesAt, most-holes, Ratio, ratio-ok, least-work}
+use Rattle.paper.specs.Lists.{some-of, joined, below, twos}
+use Rattle.paper.specs.Field.{Field, holesAt, most-holes, least-work}
 use Rattle.paper.specs.Record.{View, written, built, holes-at, nodes-at, pairs-at, whole, holes-in, nodes-in, pairs-in, nodes-of, two-numbers, viewOf}
-use Rattle.paper.specs.Rules.{
-  hole-count,
-  node-count,
-  pair-count,
-  pair,
-  repeats,
-  Repeats,
-  names,
-  Names,
-  node-ok,
-  NodeRule,
-  loose,
-  pair-ok,
-  PairRule,
-  covered-once,
-  OnePair,
-}
+use Rattle.paper.specs.Rules.{hole-count, node-count, pair-count, pair, repeats, names, Names, loose, OnePair}
 use Rattle.paper.specs.Refusals.{
   number,
   value,
@@ -52,9 +36,8 @@ use Rattle.paper.specs.Refusals as line
 use Rattle.paper.specs.Questions.{after, apart, nearest, closest, keeps, pitch, link, links}
 use Rattle.paper.specs.declared.Refusal.{Refusal}
 use Rattle.paper.specs.declared.Refusal.the-variants as R
-use Rattle.paper.proofs.ListLaws.{both, cases, by-case, not-so, and-is, not-is}
-use Rattle.paper.proofs.Tables.{pass, stop, passed, in-parts}
-use Rattle.theory.proofs.Statements.{least-is, none-is, some-below, least-two-is, none-two, some-two, ratio-is, repeats-is, names-is, node-is, pair-is, covered-is}
+use Rattle.paper.proofs.ListLaws.{both, cases, and-is, not-is}
+use Rattle.theory.proofs.Statements.{least-is, some-below, least-two-is, some-two, ratio-is, repeats-is, names-is, node-is, pair-is, covered-is}
 use Rattle.theory.specs.Conditions.{Condition, First, here, later, NoneDue, all, _also_}
 use Rattle.theory.specs.Conditions as due
 

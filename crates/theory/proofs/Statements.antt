@@ -1,71 +1,23 @@
 -- The two readings of each rule agree: the test that computes, and the statement in document 01's words. Assumes nothing.
 use mathlib.Core.Path.{_≡_, refl, sym, ap, _∙_, fun-ext}
-use mathlib.Core.Logic.{_↔_, _≢_, _⊎_, inl, inr, ⊎-elim}
+use mathlib.Core.Logic.{_↔_, _⊎_, inl, inr, ⊎-elim}
 use mathlib.Core.Bool.{Bool, true, false, _&&_, _||_, not}
 use mathlib.Core.List.{List, [], _∷_, map, List·Memᴰ, List·Memᴰ·head, List·Memᴰ·tail, List·Memᴰ·not-nil, List·Memᴰ·cases-cons}
-use Prim.Native.Nat.{ℕ, zero, suc, _+_, _*_, _-_, _≤_, _<_, max}
+use Prim.Native.Nat.{ℕ, suc, _+_, _*_, _-_, _≤_, _<_, max}
 use native.Mathlib.Nat.{min-eq-left, min-eq-right, le-of-lt}
 use native.Mathlib.Omega.{arith}
 use lib.Dec.{leb, ltb, eqb}
-use lib.ListN.{length, getD}
-use borrow.Author.Tests.{leb-true, leb-false, le-leb, ltb-true, ltb-false, lt-ltb, le-ltb, eqb-true, eqb-false, eq-eqb, ne-eqb}
-use Rattle.paper.specs.Lists.{some-of, first-of, count, joined, same, has, from, below, twos}
+use lib.ListN.{length}
+use borrow.Author.Tests.{leb-true, leb-false, le-leb, ltb-true, ltb-false, lt-ltb, eqb-true, eqb-false, eq-eqb, ne-eqb}
+use Rattle.paper.specs.Lists.{some-of, first-of, same, has, from, below, twos}
 use Rattle.paper.specs.Field.{Field, hole, ratio-ok, Ratio, within, square}
 use Rattle.paper.specs.Tree.{Box}
 use Rattle.paper.specs.Separation.{G, D, separated, Separated}
-use Rattle.paper.specs.Record.{View, leaf-mark}
-use Rattle.paper.specs.Rules.{
-  repeats,
-  Repeats,
-  hole-count,
-  node-count,
-  node,
-  pair,
-  is-leaf,
-  names,
-  holds,
-  part-ok,
-  node-ok,
-  Leaf,
-  Names,
-  LeafRule,
-  PartRule,
-  ForkRule,
-  NodeRule,
-  under-node,
-  boxed,
-  pair-ok,
-  PairRule,
-  covers,
-  covered-once,
-  Under,
-  Covers,
-  OnePair,
-}
+use Rattle.paper.specs.Record.{View}
+use Rattle.paper.specs.Rules.{repeats, Repeats, hole-count, node-count, node, is-leaf, names, holds, part-ok, node-ok, Leaf, Names, LeafRule, PartRule, ForkRule, NodeRule, under-node, boxed, pair-ok, PairRule, covers, covered-once, Covers, OnePair}
 use Rattle.paper.specs.Refusals.{least, Least, LeastTwo}
 use Rattle.paper.specs.Questions.{apart, nearer, nearest, Nearest, keeps, lowest}
-use Rattle.paper.proofs.ListLaws.{
-  both,
-  cases,
-  by-case,
-  not-so,
-  and-is,
-  or-is,
-  not-is,
-  same-is,
-  has-is,
-  some-least,
-  FirstFrom,
-  first-from,
-  none-from,
-  some-from,
-  some-joined,
-  some-map,
-  first-map,
-  first-joined,
-  One,
-  one-is,
-}
+use Rattle.paper.proofs.ListLaws.{both, cases, not-so, and-is, or-is, not-is, same-is, has-is, some-least, first-from, none-from, some-from, some-joined, some-map, first-map, first-joined, one-is}
 
 -- least values
 module _ (t : ℕ → Bool) (k : ℕ) where

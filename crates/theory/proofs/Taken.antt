@@ -1,15 +1,15 @@
 -- What holds of every record that is taken, whoever made it: the sides of a pair have no hole in common, and at a ratio above 2 the closest of the
 -- one-hole pairs is the closest of all holes. The rules of the record give the rest. Assumes nothing.
-use mathlib.Core.Path.{_≡_, refl, sym, ap, _∙_}
-use mathlib.Core.Logic.{_↔_, _≢_}
+use mathlib.Core.Path.{_≡_, refl, sym}
+use mathlib.Core.Logic.{_↔_}
 use mathlib.Core.List.{List, [], _∷_, List·Memᴰ, List·Memᴰ·head, List·Memᴰ·tail}
-use Prim.Native.Nat.{ℕ, suc, _+_, _*_, _≤_, _<_}
+use Prim.Native.Nat.{ℕ, _*_, _≤_, _<_}
 use native.Mathlib.Omega.{arith}
 use lib.ListN.{length}
 use borrow.Author.Tests.{eq-eqb}
 use Rattle.paper.specs.Field.{hole, least-work}
-use Rattle.paper.specs.Record.{View, holes-in, pairs-in, viewOf}
-use Rattle.paper.specs.Rules.{hole-count, node-count, pair-count, pair, Leaf, Under, under-node, NodeRule, PairRule, Record}
+use Rattle.paper.specs.Record.{View, holes-in, viewOf}
+use Rattle.paper.specs.Rules.{hole-count, node-count, pair-count, pair, Leaf, Under, under-node, NodeRule, Record}
 use Rattle.paper.specs.Questions.{nearest}
 use Rattle.theory.specs.Trees.{often}
 use Rattle.theory.proofs.EachLaws.{each-at}

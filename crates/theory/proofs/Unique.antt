@@ -11,23 +11,7 @@ use lib.ListN.{length, replicate, take, drop}
 use Rattle.paper.specs.Record.{Part}
 use Rattle.paper.specs.Refusals.{number, value, Answer, refused, given, build, check}
 use Rattle.paper.specs.Questions.{closest, pitch, links, section}
-use Rattle.paper.specs.Answers.{
-  wrote,
-  checked,
-  found,
-  pitched,
-  counted,
-  left-in,
-  Answered,
-  Finished,
-  PartAt,
-  Builds,
-  Checks,
-  FindsClosest,
-  TestsPitch,
-  WritesLinks,
-  HandsBack,
-}
+use Rattle.paper.specs.Answers.{wrote, checked, found, pitched, counted, left-in, Answered, Finished, Builds, Checks, FindsClosest, TestsPitch, WritesLinks, HandsBack}
 use Rattle.paper.specs.declared.Refusal.{Refusal}
 use Rattle.paper.specs.declared.Refusal.the-variants as R
 use Rattle.paper.specs.declared.Wrote.{Wrote}

@@ -5,12 +5,11 @@ use mathlib.Core.Logic.{⊎-elim}
 use mathlib.Core.List.{List, [], _∷_, List·Memᴰ, List·Memᴰ·head, List·Memᴰ·tail, List·Memᴰ·not-nil, List·Memᴰ·cases-cons}
 use Prim.Native.Nat.{ℕ, zero, suc, _≤_, _<_}
 use native.Mathlib.Omega.{arith}
-use lib.Dec.{eqb}
 use lib.ListN.{length, getD}
-use borrow.Author.Tests.{eq-eqb, ne-eqb}
+use borrow.Author.Tests.{eq-eqb}
 use Rattle.paper.specs.Record.{View}
 use Rattle.paper.specs.Rules.{hole-count, node-count, NodeRule, under-node}
-use Rattle.theory.specs.Trees.{Each, one-if, often}
+use Rattle.theory.specs.Trees.{Each, often}
 use Rattle.theory.proofs.Sums.{sum-each}
 use Rattle.theory.proofs.Often.{often-is, each-often}
 use Rattle.theory.proofs.Grown.{under-below}

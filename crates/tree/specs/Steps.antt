@@ -16,7 +16,7 @@ use Rattle.theory.specs.Trees.{Alike}
 use Rattle.field.specs.Boxes.{boxOn}
 use Rattle.field.specs.Found.{Finds}
 use Rattle.field.specs.declared.Found.{Found}
-use Rattle.field.specs.declared.Found.the-variants.{At, Nothing}
+use Rattle.field.specs.declared.Found.the-variants.{Nothing}
 use Rattle.tree.specs.Standing.{treeOn, treeIn}
 
 -- there are the nodes of a tree of n holes in a list of bytes, and room for them on the slate

@@ -1,7 +1,7 @@
 // Trees on the slate: loading a record's nodes with the test of their rules, summing up what is under each node, and ranking the holes.
 // Nothing here recurses: a tree from outside may be as deep as it has leaves, and parts have higher numbers than their node.
 ghost use mathlib.Core.Path.{_≡_};
-ghost use Prim.Native.Nat.{ℕ, _+_, _*_, _<_, _≤_, min};
+ghost use Prim.Native.Nat.{_+_, _*_, _<_, _≤_, min};
 ghost use Rattle.slate.specs.Columns.{MARKS, LOWEST};
 ghost use Rattle.slate.specs.Slate.{cell, Grid, Within};
 ghost use Rattle.paper.specs.Record.{nodes-of};

@@ -1,11 +1,11 @@
 -- The first k cells are cleared, and a turn clears one more. Assumes nothing.
-use Prim.Native.Nat.{ℕ, _≤_, _<_, _+_, _-_, _*_}
-use mathlib.Core.Path.{_≡_, refl, _∙_}
+use Prim.Native.Nat.{ℕ, _≤_, _+_, _-_}
+use mathlib.Core.Path.{_≡_, _∙_}
 use mathlib.Core.List.{List}
 use native.Mathlib.Omega.{arith}
 use borrow.Author.Needs.{needs}
 use borrow.Author.Count.{below-more}
-use Rattle.slate.specs.Slate.{cell, Set, Cleared}
+use Rattle.slate.specs.Slate.{Set, Cleared}
 use Rattle.slate.proofs.Frames.{kept-none, kept-set, kept-wider, kept-both}
 use Rattle.slate.proofs.clear.Statement.{statement}
 use Rattle.slate.proofs.clear.Tie as tie

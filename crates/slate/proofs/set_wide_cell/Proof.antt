@@ -3,7 +3,7 @@ use mathlib.Core.List.{List}
 use Prim.Native.Nat.{ℕ, _+_, _*_, _/_, _%_}
 use native.Mathlib.Omega.{arith}
 use borrow.Author.Needs.{needs}
-use Rattle.slate.specs.Slate.{cell, Set, WideSet}
+use Rattle.slate.specs.Slate.{Set, WideSet}
 use Rattle.slate.proofs.Frames.{set-cell, kept-set, kept-both}
 use Rattle.slate.proofs.set_wide_cell.Statement.{statement}
 use Rattle.slate.proofs.set_wide_cell.Tie as tie
