@@ -1,6 +1,6 @@
 -- One axis more. A hole, a box, the box around two, G and D over x + 1 axes are those over x axes with axis x at the end, since each is made
 -- along the list of axes, in order. So a loop over the axes keeps its contract at its counter. Assumes nothing.
-use mathlib.Core.Path.{_≡_, refl, _∙_}
+use mathlib.Core.Path.{_≡_, refl, sym, _∙_}
 use mathlib.Core.List.{List, [], _∷_, _++_, map, map-append}
 use Prim.Native.Nat.{ℕ, zero, suc, _+_, _*_, _<_}
 use native.Mathlib.Nat.{zero-add, add-zero}
@@ -12,6 +12,7 @@ use Rattle.paper.specs.Lists.{from, below}
 use Rattle.paper.specs.Field.{listAt, holeAt, gap, square, distance²}
 use Rattle.paper.specs.Tree.{Side, Box, point, spot, around, long}
 use Rattle.paper.specs.Separation.{G, C, D}
+use Rattle.theory.proofs.EachLaws.{length-from}
 use Rattle.field.specs.Boxes.{sideOn, boxOn, Boxed}
 use Rattle.field.specs.Sides.{sideAround, twice-centre, gapOn, Sided}
 use Rattle.field.proofs.Boxes.{length-box, box-same}
@@ -73,7 +74,7 @@ pub box-none : (w : List ℕ) (k : ℕ) → boxOn w 0 k ≡ []
 unfolding boxOn
 box-none w k = refl
 
-box-more : (w : List ℕ) (x k : ℕ) → boxOn w (x + 1) k ≡ boxOn w x k ++ (sideOn w k x ∷ [])
+pub box-more : (w : List ℕ) (x k : ℕ) → boxOn w (x + 1) k ≡ boxOn w x k ++ (sideOn w k x ∷ [])
 unfolding boxOn
 box-more w x k = map-end (sideOn w k) x
 
@@ -83,6 +84,18 @@ same-long w x j k = rw (length-box, length-box)
 pub around-more : (w : List ℕ) (x i j : ℕ)
     → around (boxOn w (x + 1) i) (boxOn w (x + 1) j) ≡ around (boxOn w x i) (boxOn w x j) ++ (sideAround (sideOn w i x) (sideOn w j x) ∷ [])
 around-more w x i j = rw (box-more w x i, box-more w x j) (around-end _ _ (sideOn w i x) (sideOn w j x) (same-long w x i j))
+
+-- the box around a node's and a hole's
+length-spot : (x : ℕ) (s : List ℕ) (o : ℕ) → length (spot (holeAt x s o)) ≡ x
+unfolding holeAt listAt
+length-spot x s o = rw (length-map, length-map) (length-from 0 x)
+
+pub beside-more : (w : List ℕ) (x k : ℕ) (s : List ℕ) (o : ℕ)
+    → around (boxOn w (x + 1) k) (spot (holeAt (x + 1) s o))
+    ≡ around (boxOn w x k) (spot (holeAt x s o)) ++ (sideAround (sideOn w k x) (point (be 2 s (o + 2 * x))) ∷ [])
+beside-more w x k s o =
+    rw (box-more w x k, spot-more x s o)
+    (around-end _ _ (sideOn w k x) (point (be 2 s (o + 2 * x))) (length-box w x k ∙ sym (length-spot x s o)))
 
 pub G-more : (w : List ℕ) (x k : ℕ) → G (boxOn w (x + 1) k) ≡ G (boxOn w x k) + square (long (sideOn w k x))
 G-more w x k = rw (box-more w x k) (G-end (boxOn w x k) (sideOn w k x))
@@ -95,15 +108,18 @@ D-more w x j k = rw (box-more w x j, box-more w x k) (D-end _ _ (sideOn w j x) (
 pub boxed-none : (w : List ℕ) (k : ℕ) → Boxed w w 0 k []
 boxed-none w k = record { len = refl; box = box-none w k; rest = λ i h. refl }
 
+pub sided-left : {old new : List ℕ} {x k : ℕ} {s : Side} → Sided old new x k s → x < 3 → (y : ℕ) → (y ≡ x → ⊥) → sideOn new k y ≡ sideOn old k y
+sided-left {x} {k} q l y m =
+    rw (
+      q .rest (2_048 * (LOW + 2 * y) + k) (λ e. m (omega arith)) (omega arith),
+      q .rest (2_048 * (HIGH + 2 * y) + k) (omega arith) (λ e. m (omega arith)),
+    )
+
 pub boxed-more : {old mid new : List ℕ} {x k : ℕ} {B : Box} {s : Side} → Boxed old mid x k B → Sided mid new x k s → x < 3
     → Boxed old new (x + 1) k (B ++ (s ∷ []))
 boxed-more {old} {mid} {new} {x} {k} p q l =
     record {
       len = q .len ∙ p .len;
-      box = rw (box-more new x k, box-same new mid x k k left, p .box, q .is);
+      box = rw (box-more new x k, box-same new mid x k k (λ y m. sided-left q l y (omega arith)), p .box, q .is);
       rest = λ i h. q .rest i (h (LOW + 2 * x) (omega arith) (omega arith)) (h (HIGH + 2 * x) (omega arith) (omega arith)) ∙ p .rest i h;
     }
-  where
-    left : (y : ℕ) → y < x → sideOn new k y ≡ sideOn mid k y
-    left y m =
-        rw (q .rest (2_048 * (LOW + 2 * y) + k) (omega arith) (omega arith), q .rest (2_048 * (HIGH + 2 * y) + k) (omega arith) (omega arith))

@@ -1,3 +1,4 @@
 pub mod Boxes
 pub mod Axis
 pub mod Places
+pub mod Longest

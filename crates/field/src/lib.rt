@@ -4,10 +4,11 @@ ghost use mathlib.Core.Path.{_≡_};
 ghost use mathlib.Core.Bool.{_&&_, not};
 ghost use Prim.Native.Nat.{_+_, _*_, _<_, _≤_, min, max};
 ghost use lib.Dec.{eqb, leb};
+ghost use lib.ListN.{getD};
 ghost use Rattle.words.specs.Words.{Read};
 ghost use Rattle.paper.specs.Lists.{same};
 ghost use Rattle.paper.specs.Field.{holeAt, holesAt, gap, square, Ratio};
-ghost use Rattle.paper.specs.Tree.{spot, around, long};
+ghost use Rattle.paper.specs.Tree.{point, spot, around, long, axis};
 ghost use Rattle.paper.specs.Separation.{G, D, separated};
 ghost use Rattle.paper.specs.Rules.{repeats, Repeats};
 ghost use Rattle.field.specs.Found.{Finds};
@@ -239,4 +240,50 @@ pub fn is_separated(work: &[u8], d: usize, a: usize, b: usize, j: usize, k: usiz
     let far = distance(work, d, j, k);
     let size = greater(girth(work, d, j), girth(work, d, k));
     wide_enough(a, b, size, far)
+}
+
+// Makes node k's side on axis x the smallest that holds c too.
+fn set_side_beside(work: &mut [u8], x: usize, k: usize, c: usize)
+    requires { ⌜ SideIn (now work) x k ⌝ }
+    requires { ⌜ c < 65536 ⌝ }
+    ensures { λ _. ⌜ Sided (now (work .entry)) (now (work .exit)) x k (sideAround (sideOn (now (work .entry)) k x) (point c)) ⌝ }
+{
+    let l = lesser(low(work, x, k), c);
+    let h = greater(high(work, x, k), c);
+    set_side(work, x, k, l, h);
+}
+
+// Makes node k's box the smallest that holds hole h too.
+pub fn set_beside(work: &mut [u8], holes: &[u8], d: usize, k: usize, h: usize)
+    requires { ⌜ NodeOn (now work) d k ⌝ }
+    requires { ⌜ HoleIn (now holes) d h ⌝ }
+    ensures { λ _. ⌜ Boxed (now (work .entry)) (now (work .exit)) d k (around (boxOn (now (work .entry)) d k) (spot (holeAt d (now (holes .entry)) (2 * d * h)))) ⌝ }
+{
+    for x in 0..d {
+        set_side_beside(work, x, k, coordinate(holes, d, h, x));
+    }
+}
+
+// The axis on which node k's box is longest, the first of them on a tie.
+pub fn cut_axis(work: &[u8], d: usize, k: usize) -> usize
+    requires { ⌜ NodeOn (now work) d k ⌝ }
+    ensures { λ r. ⌜ (r ≡ axis (boxOn (now (work .entry)) d k)) × (r < d) ⌝ }
+{
+    let mut best = 0;
+    for x in 1..d {
+        if extent(work, best, k) < extent(work, x, k) {
+            best = x;
+        }
+    }
+    best
+}
+
+// Whether hole h is in the first part where node k's box is cut on axis x: not above the middle.
+pub fn goes_first(work: &[u8], holes: &[u8], d: usize, k: usize, x: usize, h: usize) -> bool
+    requires { ⌜ NodeOn (now work) d k ⌝ }
+    requires { ⌜ HoleIn (now holes) d h ⌝ }
+    requires { ⌜ x < d ⌝ }
+    ensures { λ r. ⌜ r ≡ leb (2 * getD (holeAt d (now (holes .entry)) (2 * d * h)) x 0) (sideOn (now (work .entry)) k x .low + sideOn (now (work .entry)) k x .high) ⌝ }
+{
+    2 * coordinate(holes, d, h, x) <= centre(work, x, k)
 }

@@ -1,3 +1,7 @@
 pub mod PairTurns
 pub mod SpanLaws
 pub mod RowLaws
+pub mod Laying
+pub mod Longest
+pub mod Parted
+pub mod InOrder

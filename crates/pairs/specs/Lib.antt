@@ -1,3 +1,5 @@
 pub mod Checking
 pub mod Spans
 pub mod Rows
+pub mod Listing
+pub mod Comparing

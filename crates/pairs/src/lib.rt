@@ -1,15 +1,22 @@
 // Pairs: the test that each is separated, and the test that every two holes are covered by exactly one.
 // The covering costs at most m + n steps for a hole, whatever the record says.
 ghost use mathlib.Core.Path.{_≡_};
-ghost use Prim.Native.Nat.{_+_, _*_, _<_, min};
+ghost use mathlib.Core.Bool.{false};
+ghost use mathlib.Core.List.{[], _∷_};
+ghost use Prim.Native.Nat.{_+_, _*_, _<_, _≤_, min, max};
 ghost use Rattle.paper.specs.Field.{Ratio};
 ghost use Rattle.paper.specs.Record.{two-numbers-at};
 ghost use Rattle.field.specs.Found.{Finds};
-ghost use Rattle.field.specs.Boxes.{Axes};
+ghost use Rattle.paper.specs.Tree.{long, longest};
+ghost use Rattle.paper.specs.Separation.{separated};
+ghost use Rattle.field.specs.Boxes.{Axes, NodeOn, sideOn, boxOn};
+ghost use Rattle.field.specs.Sides.{SideIn};
 ghost use Rattle.pairs.specs.Checking.{PairsIn, PairIn, PairOn, Judged};
 ghost use Rattle.pairs.specs.Spans.{spans, Ready, Covering};
 ghost use Rattle.pairs.specs.Rows.{pairAt, spanning, meeting, Open, SpanOn, PairSpans, Counting, OneMore, Ranks, Emptied};
 ghost use Rattle.pairs.specs.Rows.{Uncounted, Tallying, Tallied, Spreading, Opening, Counted, Spread, Row};
+ghost use Rattle.pairs.specs.Listing.{Listable, Listed, pairsOn};
+ghost use Rattle.pairs.specs.Comparing.{Laid, Comparing, comparedOn, NodeListing, nodePairs};
 use field::Found;
 
 // What a search for two holes finds.
@@ -189,4 +196,143 @@ pub fn uncovered(work: &mut [u8], pairs: &[u8], n: usize, m: usize) -> Two
         }
     }
     found
+}
+
+// Writes a pair of numbers at a place of the output, where it fits, and gives the place after it.
+fn put_pair(out: &mut [u8], at: usize, i: usize, j: usize) -> usize
+    requires { ⌜ at + 4 ≤ 1099511627776 ⌝ }
+    ensures { λ r. ⌜ Laid ((i, j) ∷ []) at (now (out .entry)) (now (out .exit)) r ⌝ }
+{
+    let next = at + 4;
+    if out.len() < next {
+        return next;
+    }
+    words::put16(out, at, i);
+    words::put16(out, at + 2, j);
+    next
+}
+
+// The length of node k's side on axis x.
+fn extent(work: &[u8], x: usize, k: usize) -> usize
+    requires { ⌜ SideIn (now work) x k ⌝ }
+    ensures { λ r. ⌜ r ≡ long (sideOn (now (work .entry)) k x) ⌝ }
+{
+    let low = slate::cell(work, slate::LOW + 2 * x, k);
+    let high = slate::cell(work, slate::HIGH + 2 * x, k);
+    if low < high { high - low } else { 0 }
+}
+
+// The greater of two numbers.
+fn greater(x: usize, y: usize) -> usize
+    ensures { λ r. ⌜ r ≡ max x y ⌝ }
+{
+    if x < y { y } else { x }
+}
+
+// The longest side of node k's box.
+fn longest_side(work: &[u8], d: usize, k: usize) -> usize
+    requires { ⌜ NodeOn (now work) d k ⌝ }
+    ensures { λ r. ⌜ r ≡ longest (boxOn (now (work .entry)) d k) ⌝ }
+{
+    let mut most = 0;
+    for x in 0..d {
+        most = greater(most, extent(work, x, k));
+    }
+    most
+}
+
+// Compares node i with node j, and gives the place after the pairs that come of it.
+fn compare(
+    work: &[u8],
+    out: &mut [u8],
+    d: usize,
+    a: usize,
+    b: usize,
+    n: usize,
+    i: usize,
+    j: usize,
+    at: usize,
+) -> usize
+    requires { ⌜ Comparing (now work) d a b n i j at ⌝ }
+    ensures { λ r. ⌜ Laid (comparedOn (now (work .entry)) d a b n i j) at (now (out .entry)) (now (out .exit)) r ⌝ }
+{
+    if field::is_separated(work, d, a, b, i, j) {
+        put_pair(out, at, i, j)
+    } else {
+        split(work, out, d, a, b, n, i, j, at)
+    }
+}
+
+// The same of two nodes that are not separated: the node with the longer side is split, node j on a tie, and each part is compared with the
+// other node.
+fn split(
+    work: &[u8],
+    out: &mut [u8],
+    d: usize,
+    a: usize,
+    b: usize,
+    n: usize,
+    i: usize,
+    j: usize,
+    at: usize,
+) -> usize
+    requires { ⌜ Comparing (now work) d a b n i j at ⌝ }
+    requires { ⌜ separated a b (boxOn (now work) d i) (boxOn (now work) d j) ≡ false ⌝ }
+    ensures { λ r. ⌜ Laid (comparedOn (now (work .entry)) d a b n i j) at (now (out .entry)) (now (out .exit)) r ⌝ }
+{
+    if longest_side(work, d, j) < longest_side(work, d, i) {
+        let first = slate::cell(work, slate::FIRST, i);
+        let second = slate::cell(work, slate::SECOND, i);
+        let middle = compare(work, out, d, a, b, n, first, j, at);
+        compare(work, out, d, a, b, n, second, j, middle)
+    } else {
+        let first = slate::cell(work, slate::FIRST, j);
+        let second = slate::cell(work, slate::SECOND, j);
+        let middle = compare(work, out, d, a, b, n, i, first, at);
+        compare(work, out, d, a, b, n, i, second, middle)
+    }
+}
+
+// Compares the two parts of node k; a leaf has none.
+fn list_node(
+    work: &[u8],
+    out: &mut [u8],
+    d: usize,
+    a: usize,
+    b: usize,
+    n: usize,
+    k: usize,
+    at: usize,
+) -> usize
+    requires { ⌜ NodeListing (now work) d a b n k at ⌝ }
+    ensures { λ r. ⌜ Laid (nodePairs (now (work .entry)) d a b n k) at (now (out .entry)) (now (out .exit)) r ⌝ }
+{
+    let first = slate::cell(work, slate::FIRST, k);
+    if first == 65535 {
+        return at;
+    }
+    let second = slate::cell(work, slate::SECOND, k);
+    compare(work, out, d, a, b, n, first, second, at)
+}
+
+// Lists the pairs of the tree on the slate from the place start of the output on, each where it fits, and gives the place after the last: an empty
+// output counts them.
+pub fn list_pairs(
+    work: &[u8],
+    out: &mut [u8],
+    d: usize,
+    a: usize,
+    b: usize,
+    n: usize,
+    start: usize,
+) -> usize
+    requires { ⌜ Listable (now work) d a b n ⌝ }
+    requires { ⌜ start ≤ 1048576 ⌝ }
+    ensures { λ r. ⌜ Listed (pairsOn (now (work .entry)) d a b n) start (now (out .entry)) (now (out .exit)) r ⌝ }
+{
+    let mut at = start;
+    for k in 0..2 * n - 1 {
+        at = list_node(work, out, d, a, b, n, k, at);
+    }
+    at
 }

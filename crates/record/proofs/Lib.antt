@@ -8,3 +8,7 @@ mod PairCases
 mod TakeCases
 pub mod PartLaws
 pub mod Takes
+pub mod PutLaws
+mod BuildCases
+mod BuildAnswers
+mod Drawing

@@ -3,16 +3,24 @@
 ghost use mathlib.Core.Path.{_≡_};
 ghost use Prim.Native.Nat.{_+_, _*_, _<_, _≤_};
 ghost use lib.ListN.{length};
-ghost use Rattle.slate.specs.Slate.{Grid};
+ghost use Rattle.slate.specs.Columns.{FIRST, SECOND};
+ghost use Rattle.slate.specs.Slate.{cell, Grid};
 ghost use Rattle.paper.specs.Field.{ratio-ok};
-ghost use Rattle.paper.specs.Record.{holes-part, nodes-part, pairs-part};
-ghost use Rattle.paper.specs.Answers.{PartAt, Checks, HandsBack};
+ghost use Rattle.paper.specs.Record.{holes-part, nodes-part, pairs-part, two-numbers, written, built};
+ghost use Rattle.paper.specs.Answers.{PartAt, Builds, Checks, HandsBack};
 ghost use Rattle.record.specs.Cutting.{CutSays, Begun, PartsOf, holes-slice, nodes-slice, pairs-slice};
 ghost use Rattle.record.specs.Inspecting.{InspectSays, TakeSays, Measured, Located};
+ghost use Rattle.words.specs.Words.{Written};
+ghost use Rattle.paper.specs.Lists.{joined};
+ghost use Rattle.tree.specs.Standing.{treeOn};
+ghost use Rattle.record.specs.Building.{HeadFits, NodesFit, head, node-bytes, Buildable, Drawn, Blank, Made, Measures, RecordFits};
+ghost use Rattle.pairs.specs.Listing.{Listable};
+ghost use Rattle.paper.specs.Field.{holesAt};
 use field::Found;
 use pairs::Two;
 use paper::Checked;
 use paper::Refusal;
+use paper::Wrote;
 
 // A record's ratio, its counts, and where its parts start.
 pub struct Parts {
@@ -278,4 +286,128 @@ pub fn pairs<'a>(bytes: &'a [u8], work: &mut [u8]) -> &'a [u8]
 {
     let p = pairs_place(bytes, work);
     part_at(bytes, p.start, p.size)
+}
+
+// Writes the ratio, the hole count and the holes.
+fn put_head(out: &mut [u8], holes: &[u8], a: usize, b: usize, n: usize)
+    requires { ⌜ HeadFits (now out) (now holes) a b n ⌝ }
+    ensures { λ _. ⌜ Written (now (out .entry)) (now (out .exit)) 0 (head (now (holes .entry)) a b n) ⌝ }
+{
+    words::put16(out, 0, 256 * a + b);
+    words::put16(out, 2, n);
+    words::copy(out, 4, holes);
+}
+
+// Writes node k's two numbers.
+fn put_entry(out: &mut [u8], work: &[u8], at: usize, k: usize)
+    requires { ⌜ at + 4 ≤ length (now out) ⌝ }
+    requires { ⌜ Grid (now work) × (k < 2048) ⌝ }
+    ensures { λ _. ⌜ Written (now (out .entry)) (now (out .exit)) at (two-numbers (cell (now (work .entry)) FIRST k, cell (now (work .entry)) SECOND k)) ⌝ }
+{
+    let one = slate::cell(work, slate::FIRST, k);
+    let two = slate::cell(work, slate::SECOND, k);
+    words::put16(out, at, one);
+    words::put16(out, at + 2, two);
+}
+
+// Writes the nodes, and the node count before them.
+fn put_entries(out: &mut [u8], work: &[u8], n: usize)
+    requires { ⌜ NodesFit (now out) (now work) n ⌝ }
+    ensures { λ _. ⌜ Written (now (out .entry)) (now (out .exit)) (6 + 4 * n) (joined two-numbers (treeOn (now (work .entry)) n .nodes)) ⌝ }
+{
+    for k in 0..2 * n - 1 {
+        put_entry(out, work, 6 + 4 * n + 4 * k, k);
+    }
+}
+
+fn put_nodes(out: &mut [u8], work: &[u8], n: usize)
+    requires { ⌜ NodesFit (now out) (now work) n ⌝ }
+    ensures { λ _. ⌜ Written (now (out .entry)) (now (out .exit)) (4 + 4 * n) (node-bytes (now (work .entry)) n) ⌝ }
+{
+    words::put16(out, 4 + 4 * n, 2 * n - 1);
+    put_entries(out, work, n);
+}
+
+// How many bytes the record has: the pairs are listed into an empty output, which counts them.
+fn record_length(work: &[u8], out: &mut [u8], a: usize, b: usize, n: usize) -> usize
+    requires { ⌜ Listable (now work) 2 a b n ⌝ }
+    ensures { λ r. ⌜ Measures (now (work .entry)) a b n (now (out .entry)) (now (out .exit)) r ⌝ }
+{
+    pairs::list_pairs(work, &mut out[0..0], 2, a, b, n, 6 + 12 * n)
+}
+
+// Writes a record of m pairs into an output that has room for it.
+fn put_record(holes: &[u8], a: usize, b: usize, n: usize, m: usize, work: &[u8], out: &mut [u8])
+    requires { ⌜ RecordFits (now holes) a b n m (now work) (now out) ⌝ }
+    ensures { λ _. ⌜ Written (now (out .entry)) (now (out .exit)) 0 (written (built a b (holesAt 2 (now (holes .entry)) 0 n))) ⌝ }
+{
+    put_head(out, holes, a, b, n);
+    put_nodes(out, work, n);
+    words::put32(out, 2 + 12 * n, m);
+    pairs::list_pairs(work, out, 2, a, b, n, 6 + 12 * n);
+}
+
+// Writes the record of the field whose tree is on the slate, where the output has room for it.
+fn write_record(holes: &[u8], a: usize, b: usize, n: usize, work: &[u8], out: &mut [u8]) -> Wrote
+    requires { ⌜ Buildable (now holes) a b n ⌝ }
+    requires { ⌜ Drawn (now holes) a b n (now work) ⌝ }
+    requires { ⌜ Blank (now out) ⌝ }
+    ensures { λ r. ⌜ Made (now (holes .entry)) a b (length (now (work .entry))) (now (out .entry)) (now (out .exit)) r ⌝ }
+{
+    let end = record_length(work, out, a, b, n);
+    if out.len() < end {
+        return Wrote::Refused(Refusal::Room(end as u64));
+    }
+    put_record(holes, a, b, n, (end - (6 + 12 * n)) / 4, work, out);
+    Wrote::Bytes(end as u64)
+}
+
+// Cuts the field into its tree, sums it up on the slate, and writes its record.
+fn fill(holes: &[u8], a: usize, b: usize, n: usize, work: &mut [u8], out: &mut [u8]) -> Wrote
+    requires { ⌜ Buildable (now holes) a b n ⌝ }
+    requires { ⌜ Grid (now work) ⌝ }
+    requires { ⌜ Blank (now out) ⌝ }
+    ensures { λ r. ⌜ Made (now (holes .entry)) a b (length (now (work .entry))) (now (out .entry)) (now (out .exit)) r ⌝ }
+{
+    tree::plant(work, holes, 2, n);
+    tree::sum_up(work, holes, 2, n);
+    write_record(holes, a, b, n, work, out)
+}
+
+// Builds into an output that is all zero: the refusals in document 01's order, then the record.
+fn build_clean(holes: &[u8], a: u64, b: u64, work: &mut [u8], out: &mut [u8]) -> Wrote
+    requires { ⌜ Blank (now out) ⌝ }
+    ensures { λ r. ⌜ Made (now (holes .entry)) a b (length (now (work .entry))) (now (out .entry)) (now (out .exit)) r ⌝ }
+{
+    if work.len() < 65536 {
+        return Wrote::Refused(Refusal::Work);
+    }
+    let len = holes.len();
+    if len % 4 != 0 {
+        return Wrote::Refused(Refusal::Odd(len as u64));
+    }
+    let n = len / 4;
+    if n == 0 {
+        return Wrote::Refused(Refusal::None);
+    }
+    if 1024 < n {
+        return Wrote::Refused(Refusal::Many(n as u64));
+    }
+    if !ratio_ok(a as usize, b as usize) {
+        return Wrote::Refused(Refusal::Ratio);
+    }
+    if let Found::At(i) = field::repeated(holes, 2, n) {
+        return Wrote::Refused(Refusal::Twice(i as u64));
+    }
+    fill(holes, a as usize, b as usize, n, work, out)
+}
+
+// Builds the record of a field at the ratio a/b: the holes, their tree and its pairs, followed by zeros; or only zeros where it is refused.
+pub fn build(holes: &[u8], a: u64, b: u64, work: &mut [u8], out: &mut [u8]) -> Wrote
+    ensures { λ r. ⌜ Builds (now (holes .entry)) a b r (now (work .entry)) (now (work .exit)) (now (out .entry)) (now (out .exit)) ⌝ }
+{
+    words::zero(out);
+    let made = build_clean(holes, a, b, work, out);
+    slate::wipe(work);
+    made
 }

@@ -18,7 +18,7 @@ use Rattle.paper.proofs.ListLaws.{cases}
 use Rattle.theory.proofs.Statements.{separated-is, covered-is}
 use Rattle.theory.specs.Trees.{Each, grow}
 use Rattle.theory.proofs.EachLaws.{each-map, each-map₂, each-at}
-use Rattle.theory.proofs.Subtrees.{Sub}
+use Rattle.theory.proofs.Subtrees.{Sub, leaf-under}
 use Rattle.theory.proofs.Covering.{parts}
 use Rattle.theory.proofs.PairRules.{pairs-far}
 use Rattle.theory.proofs.Pairing.{Regular, pairs-at-most, pairs-cover}
@@ -46,8 +46,8 @@ module _ (d : ℕ) (H : Field) (sized : Each (λ h. length h ≡ d) H) (distinct
       let o = once-tree H d sized distinct some in
       record {
         once = o .once;
-        leaves-far = λ i x j y p q ne. leaves-far H d sized distinct a b i x j y (o .within x p) (o .within y q) ne;
-        flat = leaf-side H;
+        leaves-far = λ i x j y p q ne. leaves-far H d sized distinct a b i x j y (o .within x (leaf-under p)) (o .within y (leaf-under q)) ne;
+        flat = λ i x q. leaf-side H i x;
         wide = fork-tree-side H d sized distinct some;
       }
 

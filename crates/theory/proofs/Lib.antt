@@ -12,6 +12,7 @@ pub mod Numbering
 pub mod Covering
 pub mod PairRules
 pub mod Pairing
+pub mod PairsAgree
 pub mod Counting
 pub mod PairsFit
 pub mod Named

@@ -16,30 +16,15 @@ use Rattle.paper.specs.Pairs.{compared, pairs}
 use Rattle.paper.proofs.ListLaws.{by-case, both}
 use Rattle.theory.specs.Trees.{leaves, times}
 use Rattle.theory.proofs.EachLaws.{keep-split}
-use Rattle.theory.proofs.Subtrees.{
-  Sub,
-  whole,
-  in-first,
-  in-second,
-  sub-first,
-  sub-second,
-  leaf-times,
-  leaf-under,
-  Facing,
-  facing-parts,
-  facing-first,
-  facing-second,
-  facing-down,
-  facing-times,
-}
+use Rattle.theory.proofs.Subtrees.{Sub, whole, in-first, in-second, sub-first, sub-second, leaf-times, Facing, facing-parts, facing-first, facing-second, facing-down, facing-times}
 use Rattle.theory.proofs.Covering.{listed, listed-far, listed-first, listed-second, listing, parts, listing-covers, listing-bound, at-most}
 use Rattle.theory.proofs.PairRules.{apart, listedBy, pairs-leaf, pairs-fork, WhenFar, WhenFirst, WhenSecond, compared-ind}
 
 -- what the pair rule asks of a tree, a separation test and a measure of a node's side
 pub record Regular (far : Tree → Tree → Bool) (side : Tree → ℕ) (t : Tree) : Type 0 where
   pub once : (x : ℕ) → times x t ≤ 1
-  pub leaves-far : (i x j y : ℕ) → 1 ≤ times x t → 1 ≤ times y t → x ≢ y → far (leaf i x) (leaf j y) ≡ true
-  pub flat : (i x : ℕ) → side (leaf i x) ≡ 0
+  pub leaves-far : (i x j y : ℕ) → Sub (leaf i x) t → Sub (leaf j y) t → x ≢ y → far (leaf i x) (leaf j y) ≡ true
+  pub flat : (i x : ℕ) → Sub (leaf i x) t → side (leaf i x) ≡ 0
   pub wide : (i : ℕ) (a b : Tree) → Sub (fork i a b) t → 1 ≤ side (fork i a b)
 
 -- a node that has two parts
@@ -78,23 +63,23 @@ module _ (far : Tree → Tree → Bool) (side : Tree → ℕ) where
     -- "Two leaves are always separated"
     pub two-leaves : (i x j y : ℕ) → Facing t (leaf i x) (leaf j y) → far (leaf i x) (leaf j y) ≡ true
     two-leaves i x j y f =
-        regular .leaves-far i x j y (leaf-under (facing-first f)) (leaf-under (facing-second f))
+        regular .leaves-far i x j y (facing-first f) (facing-second f)
         (λ e. omega (arith, leaf-times i x x refl, leaf-times j x y e, facing-times f x, regular .once x))
 
     -- "so a leaf is never split": a first leaf, a second leaf, and the node that is split
-    pub never-split-first : (i x : ℕ) (B : Tree) → side B < side (leaf i x) → ⊥
-    never-split-first i x B h = omega (arith, regular .flat i x)
+    pub never-split-first : (i x : ℕ) (B : Tree) → Sub (leaf i x) t → side B < side (leaf i x) → ⊥
+    never-split-first i x B q h = omega (arith, regular .flat i x q)
 
     pub never-split-second : (A : Tree) (j y : ℕ) → Facing t A (leaf j y) → far A (leaf j y) ≡ false → side A ≤ side (leaf j y) → ⊥
     never-split-second (leaf i x) j y f e h = both (two-leaves i x j y f) e
-    never-split-second (fork i a b) j y f e h = omega (arith, regular .flat j y, regular .wide i a b (facing-first f))
+    never-split-second (fork i a b) j y f e h = omega (arith, regular .flat j y (facing-second f), regular .wide i a b (facing-first f))
 
     pub split-parted : (A B : Tree) → Facing t A B → far A B ≡ false → Parted (longer side A B)
-    split-parted A B f e = by-case Parted (ltb (side B) (side A)) (λ h. first A (ltb-true _ _ h)) (λ h. second B f e (ltb-false _ _ h))
+    split-parted A B f e = by-case Parted (ltb (side B) (side A)) (λ h. first A (facing-first f) (ltb-true _ _ h)) (λ h. second B f e (ltb-false _ _ h))
       where
-        first : (A : Tree) → side B < side A → Parted A
-        first (leaf i x) h = absurd (never-split-first i x B h)
-        first (fork i a b) h = (i, a, b, refl)
+        first : (A : Tree) → Sub A t → side B < side A → Parted A
+        first (leaf i x) q h = absurd (never-split-first i x B q h)
+        first (fork i a b) q h = (i, a, b, refl)
 
         second : (B : Tree) → Facing t A B → far A B ≡ false → side A ≤ side B → Parted B
         second (leaf j y) f e h = absurd (never-split-second A j y f e h)
@@ -109,7 +94,7 @@ module _ (far : Tree → Tree → Bool) (side : Tree → ℕ) where
           (λ A B e f. separated A B e)
           (λ i a b B l r e h v w f. first i a b B l r e h (v (facing-down f (in-first whole) whole)) (w (facing-down f (in-second whole) whole)))
           (λ A j c d l r e h v w f. second A j c d l r e h (v (facing-down f whole (in-first whole))) (w (facing-down f whole (in-second whole))))
-          (λ i x B e h f. absurd (never-split-first i x B h))
+          (λ i x B e h f. absurd (never-split-first i x B (facing-first f) h))
           (λ A j y e h f. absurd (never-split-second A j y f e h))
 
     -- and the rule as written lists what the easier form does

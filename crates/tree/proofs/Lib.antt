@@ -11,3 +11,7 @@ pub mod Places
 pub mod Stretches
 pub mod RankTurns
 pub mod Ranked
+pub mod PartTurns
+pub mod BoxTurns
+pub mod PlantLaws
+pub mod PlantCases

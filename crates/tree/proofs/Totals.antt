@@ -37,7 +37,7 @@ around-again (s ∷ A) (t ∷ B) (r ∷ C) =
     let f : max (max (s .high) (t .high)) (r .high) ≡ max (s .high) (max (t .high) (r .high)) = omega arith in
     rw (e, f, around-again A B C)
 
-box-append : (H : Field) (xs ys : List ℕ) → boxAt H (xs ++ ys) ≡ around (boxAt H xs) (boxAt H ys)
+pub box-append : (H : Field) (xs ys : List ℕ) → boxAt H (xs ++ ys) ≡ around (boxAt H xs) (boxAt H ys)
 unfolding boxAt boxOf around
 box-append H [] ys = refl
 box-append H (x ∷ xs) ys = rw (box-append H xs ys) (sym (around-again (spot (hole H x)) (boxAt H xs) (boxAt H ys)))

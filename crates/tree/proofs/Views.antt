@@ -25,7 +25,7 @@ module _ {B : Type 0} where
       let e : i + suc k ≡ suc i + k = omega arith in
       rw e (mapped-at f (suc i) n k d (omega arith))
 
-  mapped-same : (f g : ℕ → B) (i n : ℕ) → ((k : ℕ) → i ≤ k → k < i + n → f k ≡ g k) → map f (from i n) ≡ map g (from i n)
+  pub mapped-same : (f g : ℕ → B) (i n : ℕ) → ((k : ℕ) → i ≤ k → k < i + n → f k ≡ g k) → map f (from i n) ≡ map g (from i n)
   mapped-same f g i zero h = refl
   mapped-same f g i (suc n) h =
       ap₂ {C = List B} (λ x xs. x ∷ xs) (h i (omega arith) (omega arith)) (mapped-same f g (suc i) n (λ k a b. h k (omega arith) (omega arith)))

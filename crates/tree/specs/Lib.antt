@@ -3,3 +3,5 @@ pub mod Steps
 pub mod Loading
 pub mod Summing
 pub mod Ranking
+pub mod Planting
+pub mod Parting

@@ -1,17 +1,22 @@
-// Trees on the slate: loading a record's nodes with the test of their rules, summing up what is under each node, and ranking the holes.
-// Nothing here recurses: a tree from outside may be as deep as it has leaves, and parts have higher numbers than their node.
+// Trees on the slate: loading a record's nodes with the test of their rules, summing up what is under each node, ranking the holes, and
+// planting a field's tree. Only planting recurses, at most 16 cuts per coordinate deep: a tree from outside may be as deep as it has leaves,
+// but its parts have higher numbers than their node.
 ghost use mathlib.Core.Path.{_≡_};
 ghost use Prim.Native.Nat.{_+_, _*_, _<_, _≤_, min};
-ghost use Rattle.slate.specs.Columns.{MARKS, LOWEST};
-ghost use Rattle.slate.specs.Slate.{cell, Grid, Within};
+ghost use Rattle.slate.specs.Columns.{MARKS, LOWEST, ORDER};
+ghost use Rattle.slate.specs.Slate.{cell, Grid, Within, Columned};
 ghost use Rattle.paper.specs.Record.{nodes-of};
 ghost use Rattle.field.specs.Found.{Finds};
-ghost use Rattle.field.specs.Boxes.{HolesIn, HoleIn, NodeOn};
+ghost use Rattle.field.specs.Boxes.{HolesIn, HoleIn, NodeOn, Boxed, boxOn};
+ghost use Rattle.paper.specs.Tree.{boxAt, axis, first};
 ghost use Rattle.tree.specs.Standing.{Stands};
 ghost use Rattle.tree.specs.Steps.{NodesIn, Loading, Summed, Counted, Ranked};
 ghost use Rattle.tree.specs.Loading.{Tells, NodeRow, Nameable, BothNameable, NodePut, Next, LeafTried, ForkTried, NodeTried};
 ghost use Rattle.tree.specs.Summing.{SumsPut, LeafFilled, PartsAbove, ForkFilled, Summable, NodeSummed};
 ghost use Rattle.tree.specs.Ranking.{LeafReady, LeafRanked, ForkReady, ForkRanked, NodeReady, NodeRanked};
+ghost use Rattle.paper.specs.Field.{holesAt};
+ghost use Rattle.tree.specs.Planting.{StretchOn, PartReady, Parted, CutInTwo, Plantable, Forked, Planted, FieldIn, Numbered, Grown, stretch};
+ghost use Rattle.tree.specs.Parting.{Sifted, Placing, goes, HolePlaced, TakenBack};
 use field::Found;
 
 // Puts a record's nodes on the slate, one by one, up to the least that breaks its rule. MARKS tells the nodes that are named, SCRATCH
@@ -241,4 +246,161 @@ fn rank_fork(work: &mut [u8], k: usize)
     let holes = slate::cell(work, slate::HOLES, one);
     slate::set_cell(work, slate::FROM, one, from);
     slate::set_cell(work, slate::FROM, two, from + holes);
+}
+
+// Cuts the field into its tree: a node, then all of its first part, then all of its second.
+pub fn plant(work: &mut [u8], holes: &[u8], d: usize, n: usize)
+    requires { ⌜ Grid (now work) ⌝ }
+    requires { ⌜ FieldIn (now holes) d n ⌝ }
+    ensures { λ _. ⌜ Grown (holesAt d (now (holes .entry)) 0 n) n (now (work .entry)) (now (work .exit)) ⌝ }
+{
+    number_holes(work, n);
+    plant_from(work, holes, d, n, 0, n, 0);
+}
+
+// Plants the m holes from place lo of ORDER on as node k and those after it. A set of one hole is a leaf.
+fn plant_from(work: &mut [u8], holes: &[u8], d: usize, n: usize, lo: usize, m: usize, k: usize)
+    requires { ⌜ Plantable (now work) (now holes) d n lo m k ⌝ }
+    ensures { λ _. ⌜ Planted (holesAt d (now (holes .entry)) 0 n) lo m k (now (work .entry)) (now (work .exit)) ⌝ }
+{
+    if m == 1 {
+        let hole = slate::cell(work, slate::ORDER, lo);
+        put_node(work, k, 65535, hole);
+        return;
+    }
+    let f = plant_fork(work, holes, d, n, lo, m, k);
+    plant_from(work, holes, d, n, lo, f, k + 1);
+    plant_from(work, holes, d, n, lo + f, m - f, k + 2 * f);
+}
+
+// Puts the numbers of the holes in ORDER, from 0 on.
+fn number_holes(work: &mut [u8], n: usize)
+    requires { ⌜ Columned (now work) ORDER n ⌝ }
+    ensures { λ _. ⌜ Numbered n (now (work .entry)) (now (work .exit)) ⌝ }
+{
+    for i in 0..n {
+        slate::set_cell(work, slate::ORDER, i, i);
+    }
+}
+
+// Cuts a stretch of two or more holes in two and puts its node k, which names the roots of the parts. Gives how many holes the first has.
+fn plant_fork(
+    work: &mut [u8],
+    holes: &[u8],
+    d: usize,
+    n: usize,
+    lo: usize,
+    m: usize,
+    k: usize,
+) -> usize
+    requires { ⌜ Plantable (now work) (now holes) d n lo m k ⌝ }
+    requires { ⌜ 2 ≤ m ⌝ }
+    ensures { λ r. ⌜ Forked (holesAt d (now (holes .entry)) 0 n) lo m k (now (work .entry)) (now (work .exit)) r ⌝ }
+{
+    let f = cut_in_two(work, holes, d, n, lo, m, k);
+    put_node(work, k, k + 1, k + 2 * f);
+    f
+}
+
+// Cuts a stretch in two and gives how many holes the first part has. Node k's box serves to hold the stretch's.
+fn cut_in_two(
+    work: &mut [u8],
+    holes: &[u8],
+    d: usize,
+    n: usize,
+    lo: usize,
+    m: usize,
+    k: usize,
+) -> usize
+    requires { ⌜ StretchOn (now work) (now holes) d n lo m ⌝ }
+    requires { ⌜ k < 2048 ⌝ }
+    ensures { λ r. ⌜ CutInTwo (holesAt d (now (holes .entry)) 0 n) lo m (now (work .entry)) (now (work .exit)) r ⌝ }
+{
+    box_of(work, holes, d, n, lo, m, k);
+    part(work, holes, d, n, lo, m, k)
+}
+
+// Node k's box is that of the stretch.
+fn box_of(work: &mut [u8], holes: &[u8], d: usize, n: usize, lo: usize, m: usize, k: usize)
+    requires { ⌜ StretchOn (now work) (now holes) d n lo m ⌝ }
+    requires { ⌜ k < 2048 ⌝ }
+    ensures { λ _. ⌜ Boxed (now (work .entry)) (now (work .exit)) d k (boxAt (holesAt d (now (holes .entry)) 0 n) (stretch (now (work .entry)) lo m)) ⌝ }
+{
+    let first = slate::cell(work, slate::ORDER, lo);
+    field::set_point(work, holes, d, k, first);
+    for i in 1..m {
+        let hole = slate::cell(work, slate::ORDER, lo + i);
+        field::set_beside(work, holes, d, k, hole);
+    }
+}
+
+// Puts the first part of a stretch in front, in its order, and the second after it; gives how many holes the first has. SCRATCH holds the second
+// on the way.
+fn part(work: &mut [u8], holes: &[u8], d: usize, n: usize, lo: usize, m: usize, k: usize) -> usize
+    requires { ⌜ PartReady (now work) (now holes) d n lo m k ⌝ }
+    ensures { λ r. ⌜ Parted (holesAt d (now (holes .entry)) 0 n) lo m (now (work .entry)) (now (work .exit)) r ⌝ }
+{
+    let x = field::cut_axis(work, d, k);
+    let f = sift(work, holes, d, n, lo, m, k, x);
+    take_back(work, lo + f, m - f);
+    f
+}
+
+// Puts the holes of a stretch that go first in front, and the others in SCRATCH, each in their order; gives how many go first.
+fn sift(
+    work: &mut [u8],
+    holes: &[u8],
+    d: usize,
+    n: usize,
+    lo: usize,
+    m: usize,
+    k: usize,
+    x: usize,
+) -> usize
+    requires { ⌜ PartReady (now work) (now holes) d n lo m k ⌝ }
+    requires { ⌜ (x ≡ axis (boxOn (now work) d k)) × (x < d) ⌝ }
+    ensures { λ r. ⌜ Sifted (first (holesAt d (now (holes .entry)) 0 n) (stretch (now (work .entry)) lo m)) lo m (now (work .entry)) (now (work .exit)) r ⌝ }
+{
+    let mut f = 0;
+    for i in 0..m {
+        if place(work, holes, d, k, x, lo + i, lo + f, i - f) {
+            f += 1;
+        }
+    }
+    f
+}
+
+// Puts the hole at place `from` of ORDER at place yes of it where it goes first, and else at place no of SCRATCH; gives whether it goes first.
+fn place(
+    work: &mut [u8],
+    holes: &[u8],
+    d: usize,
+    k: usize,
+    x: usize,
+    from: usize,
+    yes: usize,
+    no: usize,
+) -> bool
+    requires { ⌜ Placing (now work) (now holes) d k x from yes no ⌝ }
+    ensures { λ r. ⌜ HolePlaced (goes (now (work .entry)) (now (holes .entry)) d k x) from yes no (now (work .entry)) (now (work .exit)) r ⌝ }
+{
+    let hole = slate::cell(work, slate::ORDER, from);
+    if field::goes_first(work, holes, d, k, x, hole) {
+        slate::set_cell(work, slate::ORDER, yes, hole);
+        return true;
+    }
+    slate::set_cell(work, slate::SCRATCH, no, hole);
+    false
+}
+
+// Puts the first m holes of SCRATCH into ORDER from place lo on.
+fn take_back(work: &mut [u8], lo: usize, m: usize)
+    requires { ⌜ Grid (now work) ⌝ }
+    requires { ⌜ lo + m ≤ 2048 ⌝ }
+    ensures { λ _. ⌜ TakenBack lo m (now (work .entry)) (now (work .exit)) ⌝ }
+{
+    for i in 0..m {
+        let hole = slate::cell(work, slate::SCRATCH, i);
+        slate::set_cell(work, slate::ORDER, lo + i, hole);
+    }
 }

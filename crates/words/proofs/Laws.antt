@@ -176,6 +176,10 @@ written-sets (b ∷ bs) s at l = written-more (written-one s at b (omega arith))
 pub written-is : {old new : List ℕ} {at : ℕ} {bs : List ℕ} → Written old new at bs → at + length bs ≤ length old → new ≡ take at old ++ bs ++ drop (at + length bs) old
 written-is {old} {new} {at} {bs} p l = written-same p (written-sets bs old at l) ∙ sets-eq bs old at l
 
+pub is-written : {old new : List ℕ} {at : ℕ} {bs : List ℕ} → at + length bs ≤ length old → new ≡ take at old ++ bs ++ drop (at + length bs) old
+    → Written old new at bs
+is-written {old} {at} {bs} l e = rw (e ∙ sym (sets-eq bs old at l)) (written-sets bs old at l)
+
 pub written-all : {old new bs : List ℕ} → Written old new 0 bs → length bs ≤ length old → new ≡ bs ++ drop (length bs) old
 written-all {old} {new} {bs} p l = rw zero-add at (written-is p (rw zero-add l))
 

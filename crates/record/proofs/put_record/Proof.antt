@@ -1,0 +1,40 @@
+use Prim.Native.Nat.{_-_}
+use borrow.Author.Needs.{needs}
+use Rattle.record.proofs.BuildCases.{record-done}
+use Rattle.record.proofs.put_record.Statement.{statement}
+use Rattle.record.proofs.put_record.Tie as tie
+
+ruleset all = (needs)
+
+put-head-requires : tie.Need-put-head-requires
+put-head-requires c κs = search all
+
+put-nodes-requires : tie.Need-put-nodes-requires
+put-nodes-requires c κs = search all
+
+mul-put32 : tie.Need-mul-put32
+mul-put32 c = search all
+
+add-put32 : tie.Need-add-put32
+add-put32 c = search all
+
+put32-requires : tie.Need-put32-requires
+put32-requires c κs = search all
+
+mul-list-pairs : tie.Need-mul-list-pairs
+mul-list-pairs c = search all
+
+add-list-pairs : tie.Need-add-list-pairs
+add-list-pairs c = search all
+
+list-pairs-requires : tie.Need-list-pairs-requires
+list-pairs-requires c κs = search all
+
+same-length : tie.Need-same-length
+same-length c = search all
+
+returns : tie.Need-returns
+returns c = search record-done
+
+pub put-record-spec : {M : Type 1} → statement M
+put-record-spec = tie.close (tie.spec put-head-requires put-nodes-requires mul-put32 add-put32 put32-requires mul-list-pairs add-list-pairs list-pairs-requires same-length returns)

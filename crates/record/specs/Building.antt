@@ -1,0 +1,75 @@
+-- What the builder's steps ask and leave, from a list of coordinates to the bytes of its record. Assumes nothing.
+use mathlib.Core.Path.{_≡_}
+use mathlib.Core.List.{List, [], _∷_, _++_, map}
+use Prim.Native.Nat.{ℕ, _+_, _*_, _-_, _≤_}
+use lib.ListN.{length, replicate}
+use Rattle.words.specs.Words.{bytes, Bytes}
+use Rattle.slate.specs.Slate.{Grid}
+use Rattle.paper.specs.Lists.{joined}
+use Rattle.paper.specs.Field.{Ratio, most-holes, holesAt}
+use Rattle.paper.specs.Tree.{treeOf}
+use Rattle.paper.specs.Pairs.{pairsOf, numbers}
+use Rattle.paper.specs.Record.{entries, nodes-of, two-numbers, whole}
+use Rattle.paper.specs.Refusals.{build}
+use Rattle.paper.specs.Answers.{wrote, counted, left-in}
+use Rattle.paper.specs.declared.Wrote.{Wrote}
+use Rattle.theory.proofs.Fields.{Distinct}
+use Rattle.tree.specs.Standing.{treeOn}
+use Rattle.pairs.specs.Listing.{Listable, pairsOn}
+
+-- n holes at different places and a ratio in range
+pub record Buildable (c : List ℕ) (a b n : ℕ) : Type 0 where
+  pub even : length c ≡ 4 * n
+  pub some : 1 ≤ n
+  pub few : n ≤ most-holes
+  pub ratio : Ratio a b
+  pub distinct : Distinct (holesAt 2 c 0 n)
+  pub small : Bytes c
+
+-- an output that is all zero
+pub record Blank (out : List ℕ) : Type 0 where
+  pub zeros : out ≡ replicate (length out) 0
+
+-- what a call says, and what it leaves in an output that was all zero; w is the length of the work area
+pub record Made (c : List ℕ) (a b w : ℕ) (out out′ : List ℕ) (r : Wrote) : Type 0 where
+  pub answer : wrote r ≡ counted (build c a b w (length out))
+  pub output : out′ ≡ left-in (length out) (build c a b w (length out))
+
+-- the field's tree stands on the slate with its boxes, so that its pairs can be listed
+pub record Drawn (c : List ℕ) (a b n : ℕ) (w : List ℕ) : Type 0 where
+  pub listable : Listable w 2 a b n
+  pub nodes : treeOn w n .nodes ≡ entries (treeOf (holesAt 2 c 0 n))
+  pub pairs : pairsOn w 2 a b n ≡ map numbers (pairsOf (holesAt 2 c 0 n) a b)
+
+-- room for the ratio, the hole count and the holes; for the node count and the nodes
+pub record HeadFits (out c : List ℕ) (a b n : ℕ) : Type 0 where
+  pub ratio : Ratio a b
+  pub even : length c ≡ 4 * n
+  pub few : n ≤ most-holes
+  pub room : 4 + 4 * n ≤ length out
+
+pub record NodesFit (out w : List ℕ) (n : ℕ) : Type 0 where
+  pub grid : Grid w
+  pub some : 1 ≤ n
+  pub few : n ≤ most-holes
+  pub room : 2 + 12 * n ≤ length out
+
+-- the ratio, the hole count and the holes
+abbrev pub head : List ℕ → ℕ → ℕ → ℕ → List ℕ
+head c a b n = (a ∷ b ∷ []) ++ bytes 2 n ++ c
+
+-- the node count and the nodes
+abbrev pub node-bytes : List ℕ → ℕ → List ℕ
+node-bytes w n = bytes 2 (nodes-of n) ++ joined two-numbers (treeOn w n .nodes)
+
+-- r is the length of the record; the output is as it was
+pub record Measures (w : List ℕ) (a b n : ℕ) (out out′ : List ℕ) (r : ℕ) : Type 0 where
+  pub is : r ≡ whole n (length (pairsOn w 2 a b n))
+  pub kept : out′ ≡ out
+
+-- there is room for the record, and m is how many pairs it has
+pub record RecordFits (c : List ℕ) (a b n m : ℕ) (w out : List ℕ) : Type 0 where
+  pub field : Buildable c a b n
+  pub drawn : Drawn c a b n w
+  pub count : m ≡ length (pairsOn w 2 a b n)
+  pub room : whole n m ≤ length out
