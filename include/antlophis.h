@@ -1,8 +1,8 @@
 /* Antlophis: records of pinhole fields, for the press controller. Link with libpress.a.
  *
  * Every call accepts all bytes and always returns. Buffers of one call must not overlap. A NULL pointer is allowed only with length 0.
- * The work area is lent: at least 65,536 bytes, whatever they hold. When a call returns, all of it is zero.
- * Input is only read. */
+ * The work area is lent: at least 65,536 bytes, whatever they hold. When a call returns, all of it is zero. An output holds the finished
+ * result followed by zeros, or only zeros where the call is refused, whatever it held before. Input is only read. */
 #ifndef ANTLOPHIS_H
 #define ANTLOPHIS_H
 
@@ -22,6 +22,11 @@ typedef struct {
 typedef struct {
     uint64_t start, length;
 } antlophis_part;
+
+/* Builds the record of a field at the ratio a/b into out: first = bytes written, 6 + 12 * holes + 4 * pairs. holes is x then y of each hole, two
+ * bytes each, high byte first. Where out is too short the refusal is 7 and first = bytes needed; 2,107,398 are enough for every field. */
+antlophis_answer antlophis_build(const uint8_t *holes, size_t holes_len, uint64_t a, uint64_t b, uint8_t *work, size_t work_len,
+                                 uint8_t *out, size_t out_len);
 
 /* Takes a record exactly when it meets document 01's record rules: first = holes, second = pairs. */
 antlophis_answer antlophis_check(const uint8_t *record, size_t record_len, uint8_t *work, size_t work_len);

@@ -2,16 +2,17 @@
 -- along the list of axes, in order. So a loop over the axes keeps its contract at its counter. Assumes nothing.
 use mathlib.Core.Path.{_≡_, refl, sym, _∙_}
 use mathlib.Core.List.{List, [], _∷_, _++_, map, map-append}
-use Prim.Native.Nat.{ℕ, zero, suc, _+_, _*_, _<_}
-use native.Mathlib.Nat.{zero-add, add-zero}
+use Prim.Native.Nat.{ℕ, _+_, _*_, _<_}
+use native.Mathlib.Nat.{zero-add}
 use native.Mathlib.Omega.{arith}
 use lib.ListN.{length, length-map}
 use Rattle.words.specs.Words.{be}
 use Rattle.slate.specs.Columns.{LOW, HIGH}
-use Rattle.paper.specs.Lists.{from, below}
+use Rattle.paper.specs.Lists.{below}
 use Rattle.paper.specs.Field.{listAt, holeAt, gap, square, distance²}
 use Rattle.paper.specs.Tree.{Side, Box, point, spot, around, long}
 use Rattle.paper.specs.Separation.{G, C, D}
+use Rattle.paper.proofs.ListLaws.{from-append}
 use Rattle.theory.proofs.EachLaws.{length-from}
 use Rattle.field.specs.Boxes.{sideOn, boxOn, Boxed}
 use Rattle.field.specs.Sides.{sideAround, twice-centre, gapOn, Sided}
@@ -19,15 +20,8 @@ use Rattle.field.proofs.Boxes.{length-box, box-same}
 
 -- ---- one more at the end of a list
 
-from-end : (i n : ℕ) → from i (n + 1) ≡ from i n ++ ((i + n) ∷ [])
-from-end i zero = rw add-zero
-from-end i (suc n) =
-    let e : suc n + 1 ≡ suc (n + 1) = omega arith in
-    let f : i + suc n ≡ suc i + n = omega arith in
-    rw (e, f, from-end (suc i) n)
-
 map-end : {A : Type 0} (f : ℕ → A) (n : ℕ) → map f (below (n + 1)) ≡ map f (below n) ++ (f n ∷ [])
-map-end f n = rw (from-end 0 n, map-append, zero-add)
+map-end f n = rw (from-append 0 n 1, map-append, zero-add)
 
 around-end : (A B : Box) (s t : Side) → length A ≡ length B → around (A ++ (s ∷ [])) (B ++ (t ∷ [])) ≡ around A B ++ (sideAround s t ∷ [])
 unfolding around

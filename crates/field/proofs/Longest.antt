@@ -1,6 +1,6 @@
 -- The first axis that has the longest side, with one side more at the end: it is the new one where that is longer than all before it, and else it
 -- stays. Assumes nothing.
-use mathlib.Core.Path.{_≡_, sym, ap, _∙_}
+use mathlib.Core.Path.{_≡_, refl, sym, ap, _∙_}
 use mathlib.Core.List.{List, [], _∷_, _++_}
 use Prim.Native.Nat.{ℕ, suc, _+_, _<_, _≤_, max}
 use native.Mathlib.Omega.{arith}
@@ -68,3 +68,11 @@ module _ (w : List ℕ) (k : ℕ) where
 
   pub best-done : (x d best : ℕ) → best ≡ axis (boxOn w x k) → x ≤ d → d ≤ x → best ≡ axis (boxOn w d k)
   best-done x d best e l m = let f : x ≡ d = omega arith in rw f at e
+
+-- the longest side itself
+pub longest-none : (w : List ℕ) (k : ℕ) → 0 ≡ longest (boxOn w 0 k)
+unfolding longest boxOn
+longest-none w k = refl
+
+pub longest-more : (w : List ℕ) (x k : ℕ) → longest (boxOn w (x + 1) k) ≡ max (longest (boxOn w x k)) (long (sideOn w k x))
+longest-more w x k = ap longest (box-more w x k) ∙ longest-end (boxOn w x k) (sideOn w k x)

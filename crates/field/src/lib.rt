@@ -8,7 +8,7 @@ ghost use lib.ListN.{getD};
 ghost use Rattle.words.specs.Words.{Read};
 ghost use Rattle.paper.specs.Lists.{same};
 ghost use Rattle.paper.specs.Field.{holeAt, holesAt, gap, square, Ratio};
-ghost use Rattle.paper.specs.Tree.{point, spot, around, long, axis};
+ghost use Rattle.paper.specs.Tree.{point, spot, around, long, longest, axis};
 ghost use Rattle.paper.specs.Separation.{G, D, separated};
 ghost use Rattle.paper.specs.Rules.{repeats, Repeats};
 ghost use Rattle.field.specs.Found.{Finds};
@@ -171,6 +171,18 @@ pub fn girth(work: &[u8], d: usize, k: usize) -> usize
         sum += squared(extent(work, x, k));
     }
     sum
+}
+
+// The longest side of node k's box.
+pub fn longest_side(work: &[u8], d: usize, k: usize) -> usize
+    requires { ⌜ NodeOn (now work) d k ⌝ }
+    ensures { λ r. ⌜ r ≡ longest (boxOn (now (work .entry)) d k) ⌝ }
+{
+    let mut most = 0;
+    for x in 0..d {
+        most = greater(most, extent(work, x, k));
+    }
+    most
 }
 
 // Twice the centre of node k's side on axis x.

@@ -2,6 +2,5 @@ pub mod PairTurns
 pub mod SpanLaws
 pub mod RowLaws
 pub mod Laying
-pub mod Longest
 pub mod Parted
 pub mod InOrder

@@ -1,16 +1,14 @@
-// Pairs: the test that each is separated, and the test that every two holes are covered by exactly one.
+// Pairs: listing those of a tree, the test that each is separated, and the test that every two holes are covered by exactly one.
 // The covering costs at most m + n steps for a hole, whatever the record says.
 ghost use mathlib.Core.Path.{_≡_};
 ghost use mathlib.Core.Bool.{false};
 ghost use mathlib.Core.List.{[], _∷_};
-ghost use Prim.Native.Nat.{_+_, _*_, _<_, _≤_, min, max};
+ghost use Prim.Native.Nat.{_+_, _*_, _<_, _≤_, min};
 ghost use Rattle.paper.specs.Field.{Ratio};
 ghost use Rattle.paper.specs.Record.{two-numbers-at};
 ghost use Rattle.field.specs.Found.{Finds};
-ghost use Rattle.paper.specs.Tree.{long, longest};
 ghost use Rattle.paper.specs.Separation.{separated};
-ghost use Rattle.field.specs.Boxes.{Axes, NodeOn, sideOn, boxOn};
-ghost use Rattle.field.specs.Sides.{SideIn};
+ghost use Rattle.field.specs.Boxes.{Axes, boxOn};
 ghost use Rattle.pairs.specs.Checking.{PairsIn, PairIn, PairOn, Judged};
 ghost use Rattle.pairs.specs.Spans.{spans, Ready, Covering};
 ghost use Rattle.pairs.specs.Rows.{pairAt, spanning, meeting, Open, SpanOn, PairSpans, Counting, OneMore, Ranks, Emptied};
@@ -212,35 +210,6 @@ fn put_pair(out: &mut [u8], at: usize, i: usize, j: usize) -> usize
     next
 }
 
-// The length of node k's side on axis x.
-fn extent(work: &[u8], x: usize, k: usize) -> usize
-    requires { ⌜ SideIn (now work) x k ⌝ }
-    ensures { λ r. ⌜ r ≡ long (sideOn (now (work .entry)) k x) ⌝ }
-{
-    let low = slate::cell(work, slate::LOW + 2 * x, k);
-    let high = slate::cell(work, slate::HIGH + 2 * x, k);
-    if low < high { high - low } else { 0 }
-}
-
-// The greater of two numbers.
-fn greater(x: usize, y: usize) -> usize
-    ensures { λ r. ⌜ r ≡ max x y ⌝ }
-{
-    if x < y { y } else { x }
-}
-
-// The longest side of node k's box.
-fn longest_side(work: &[u8], d: usize, k: usize) -> usize
-    requires { ⌜ NodeOn (now work) d k ⌝ }
-    ensures { λ r. ⌜ r ≡ longest (boxOn (now (work .entry)) d k) ⌝ }
-{
-    let mut most = 0;
-    for x in 0..d {
-        most = greater(most, extent(work, x, k));
-    }
-    most
-}
-
 // Compares node i with node j, and gives the place after the pairs that come of it.
 fn compare(
     work: &[u8],
@@ -280,7 +249,7 @@ fn split(
     requires { ⌜ separated a b (boxOn (now work) d i) (boxOn (now work) d j) ≡ false ⌝ }
     ensures { λ r. ⌜ Laid (comparedOn (now (work .entry)) d a b n i j) at (now (out .entry)) (now (out .exit)) r ⌝ }
 {
-    if longest_side(work, d, j) < longest_side(work, d, i) {
+    if field::longest_side(work, d, j) < field::longest_side(work, d, i) {
         let first = slate::cell(work, slate::FIRST, i);
         let second = slate::cell(work, slate::SECOND, i);
         let middle = compare(work, out, d, a, b, n, first, j, at);

@@ -4,6 +4,7 @@ use mathlib.Core.Logic.{_↔_, _⊎_, inl, inr, ⊎-elim}
 use mathlib.Core.Bool.{Bool, true, false, _&&_, _||_, not, true≢false}
 use mathlib.Core.List.{List, [], _∷_, _++_, map, List·Memᴰ, List·Memᴰ·head, List·Memᴰ·tail, List·Memᴰ·not-nil, List·Memᴰ·cases-cons}
 use Prim.Native.Nat.{ℕ, zero, suc, _+_, _-_, _≤_, _<_}
+use native.Mathlib.Nat.{add-zero, zero-add}
 use native.Mathlib.Omega.{arith}
 use lib.Dec.{eqb, leb, ltb}
 use lib.ListN.{length, getD}
@@ -249,3 +250,11 @@ module _ {A : Type 0} (p : A → Bool) (d : A) where
 
   pub one-is : (l : List A) → count p l ≡ 1 ↔ One p d l
   one-is l = (one-counted l, λ o. count-one l (o .which) (o .within) (o .holds) (o .only))
+
+-- the numbers of two stretches are those of the first, then those of the second
+pub from-append : (i p q : ℕ) → from i (p + q) ≡ from i p ++ from (i + p) q
+from-append i zero q = rw (zero-add, add-zero)
+from-append i (suc p) q =
+    let e : suc p + q ≡ suc (p + q) = omega arith in
+    let f : i + suc p ≡ suc i + p = omega arith in
+    rw (e, f, from-append (suc i) p q)

@@ -1,13 +1,15 @@
--- Two results that meet a call's promise are the same, whatever the two work areas held: the answer, and every byte of the area. Assumes nothing.
+-- Two results that meet a call's promise are the same, whatever the two areas held: the answer, and every byte of the areas. Assumes nothing.
 use mathlib.Core.Path.{_≡_, sym, ap, ap₂, _∙_}
 use mathlib.Core.List.{List}
 use Prim.Native.Nat.{ℕ}
 use lib.ListN.{length, replicate}
 use Rattle.paper.specs.Record.{Part}
+use Rattle.paper.specs.Refusals.{Answer}
 use Rattle.paper.specs.Questions.{section}
+use Rattle.paper.specs.Answers.{left-in}
 use Rattle.press.specs.declared.Answer as said
 use Rattle.press.specs.declared.Part as handed
-use Rattle.press.specs.Flat.{Numbers, Says, Tells, HandsOver}
+use Rattle.press.specs.Flat.{Numbers, Says, Tells, Finishes, HandsOver}
 
 -- answers with the same numbers are the same, and so are parts at the same place
 answer-of : ℕ × ℕ → ℕ × ℕ → said.Answer
@@ -30,6 +32,14 @@ wiped-once l p q = p ∙ ap (λ (n : ℕ). replicate n 0) l ∙ sym q
 pub answers-once : {asked : Numbers} {r s : said.Answer} {u v w x : List ℕ} → length u ≡ length v → Tells asked r u w → Tells asked s v x
     → (r ≡ s) × (w ≡ x)
 answers-once l p q = (said-is (p .says) ∙ sym (said-is (q .says)), wiped-once l (p .wiped) (q .wiped))
+
+pub outputs-once : {asked : Answer (List ℕ)} {r s : said.Answer} {u v w x o p y z : List ℕ} → length u ≡ length v → length o ≡ length p
+    → Finishes asked r u w o y → Finishes asked s v x p z → (r ≡ s) × (w ≡ x) × (y ≡ z)
+outputs-once {asked} l m p q = (
+  said-is (p .says) ∙ sym (said-is (q .says)),
+  wiped-once l (p .wiped) (q .wiped),
+  p .output ∙ ap (λ (n : ℕ). left-in n asked) m ∙ sym (q .output),
+)
 
 pub parts-once : {part : List ℕ → Part} {bytes : List ℕ} {r s : handed.Part} {u v w x : List ℕ} → length u ≡ length v
     → HandsOver part bytes r u w → HandsOver part bytes s v x → (r ≡ s) × (w ≡ x)

@@ -6,6 +6,7 @@ use lib.ListN.{length, replicate}
 use Rattle.paper.specs.Record.{Part}
 use Rattle.paper.specs.Refusals.{Answer, refused, given}
 use Rattle.paper.specs.Questions.{section}
+use Rattle.paper.specs.Answers.{counted, left-in}
 use Rattle.press.specs.declared.Answer as said
 use Rattle.press.specs.declared.Part as handed
 
@@ -25,6 +26,10 @@ flat values (given t) = values t
 abbrev pub counts : ℕ × ℕ → Numbers
 counts t = record { number = 0; first = t .0; second = t .1; third = 0 }
 
+-- the bytes that a call wrote
+abbrev pub bytes-written : ℕ → Numbers
+bytes-written n = record { number = 0; first = n; second = 0; third = 0 }
+
 -- C's answer is these numbers
 pub record Says (asked : Numbers) (r : said.Answer) : Type 0 where
   pub number : r .number ≡ asked .number
@@ -42,3 +47,9 @@ pub record HandsOver (part : List ℕ → Part) (bytes : List ℕ) (r : handed.P
   pub start : r .start ≡ section part bytes (length work) .start
   pub size : r .length ≡ section part bytes (length work) .size
   pub wiped : work′ ≡ replicate (length work) 0
+
+-- a call that finishes an output
+pub record Finishes (asked : Answer (List ℕ)) (r : said.Answer) (work work′ out out′ : List ℕ) : Type 0 where
+  pub says : Says (flat bytes-written (counted asked)) r
+  pub wiped : work′ ≡ replicate (length work) 0
+  pub output : out′ ≡ left-in (length out) asked

@@ -1,11 +1,12 @@
 // The library as C sees it: each call of include/antlophis.h. An answer is plain numbers, a part of a record is its place.
 ghost use Rattle.paper.specs.Record.{holes-part, nodes-part, pairs-part};
-ghost use Rattle.paper.specs.Refusals.{check};
+ghost use Rattle.paper.specs.Refusals.{build, check};
 ghost use Rattle.paper.specs.Answers.{refuses};
-ghost use Rattle.press.specs.Flat.{flat, counts, Says, Tells, HandsOver};
+ghost use Rattle.press.specs.Flat.{flat, counts, Says, Tells, Finishes, HandsOver};
 ghost use lib.ListN.{length};
 use paper::Checked;
 use paper::Refusal;
+use paper::Wrote;
 
 // Number 0 is done, with the values that the call gives; any other is the refusal, with its value first. What is not used is 0.
 #[repr(C)]
@@ -32,6 +33,28 @@ fn refusal(x: Refusal) -> Answer
         first: paper::value_of(x),
         second: 0,
         third: 0,
+    }
+}
+
+// Builds the record of a field at the ratio a/b into an output: the first number is how many bytes it has.
+#[no_mangle]
+pub extern "C" fn antlophis_build(
+    holes: &[u8],
+    a: u64,
+    b: u64,
+    work: &mut [u8],
+    out: &mut [u8],
+) -> Answer
+    ensures { λ r. ⌜ Finishes (build (now (holes .entry)) a b (length (now (work .entry))) (length (now (out .entry)))) r (now (work .entry)) (now (work .exit)) (now (out .entry)) (now (out .exit)) ⌝ }
+{
+    match record::build(holes, a, b, work, out) {
+        Wrote::Refused(x) => refusal(x),
+        Wrote::Bytes(n) => Answer {
+            number: 0,
+            first: n,
+            second: 0,
+            third: 0,
+        },
     }
 }
 

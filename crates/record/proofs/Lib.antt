@@ -8,6 +8,7 @@ mod PairCases
 mod TakeCases
 pub mod PartLaws
 pub mod Takes
+pub mod Delivers
 pub mod PutLaws
 mod BuildCases
 mod BuildAnswers

@@ -1,3 +1,4 @@
 pub mod Cutting
 pub mod Inspecting
 pub mod Building
+pub mod Delivered

@@ -58,13 +58,6 @@ fn ratio_ok(a: usize, b: usize) -> bool
     1 <= a && a <= 64 && 1 <= b && b <= 8
 }
 
-// A byte as a number.
-fn wide(x: u8) -> usize
-    ensures { λ r. ⌜ (r ≡ x) × (r < 256) ⌝ }
-{
-    x as usize
-}
-
 // Cuts a record into its parts: the ratio, the counts and the length are tested, in document 01's order.
 pub fn cut(bytes: &[u8]) -> Division
     ensures { λ r. ⌜ CutSays (now (bytes .entry)) r ⌝ }
@@ -72,8 +65,8 @@ pub fn cut(bytes: &[u8]) -> Division
     if bytes.len() < 4 {
         return Division::Bad(Refusal::Short(4));
     }
-    let a = wide(bytes[0]);
-    let b = wide(bytes[1]);
+    let a = words::wide(bytes[0]);
+    let b = words::wide(bytes[1]);
     if !ratio_ok(a, b) {
         return Division::Bad(Refusal::Ratio);
     }

@@ -24,7 +24,8 @@ use Rattle.theory.proofs.Reading.{length-holes, holes-flat}
 use Rattle.tree.specs.Standing.{treeOn}
 use Rattle.tree.specs.Loading.{NodePut}
 use Rattle.tree.specs.Planting.{stretch, rows, CutInTwo, Plantable, Forked, Planted, FieldIn, Numbered, Grown}
-use Rattle.tree.proofs.PlantLaws.{from-append, rows-fork, rows-same, each-stretch, stretch-split, plantable}
+use Rattle.paper.proofs.ListLaws.{from-append}
+use Rattle.tree.proofs.PlantLaws.{rows-fork, rows-same, each-stretch, stretch-split, plantable}
 
 -- ---- a leaf
 

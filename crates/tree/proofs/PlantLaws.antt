@@ -3,7 +3,6 @@
 use mathlib.Core.Path.{_≡_, refl, sym, subst, _∙_}
 use mathlib.Core.List.{List, _∷_, _++_, map-append}
 use Prim.Native.Nat.{ℕ, zero, suc, _+_, _*_, _-_, _≤_, _<_}
-use native.Mathlib.Nat.{add-zero, zero-add}
 use native.Mathlib.Omega.{arith}
 use lib.ListN.{length}
 use lib.Seq.{take-append-seam, drop-at}
@@ -11,7 +10,7 @@ use Rattle.words.specs.Area.{word, run}
 use Rattle.words.proofs.AreaLaws.{length-run, run-append, getD-run}
 use Rattle.slate.specs.Columns.{FIRST, SECOND, ORDER}
 use Rattle.slate.specs.Slate.{cell, Grid}
-use Rattle.paper.specs.Lists.{from}
+use Rattle.paper.proofs.ListLaws.{from-append}
 use Rattle.paper.specs.Field.{holesAt}
 use Rattle.paper.specs.Record.{nodes-of}
 use Rattle.theory.specs.Trees.{Each}
@@ -20,13 +19,6 @@ use Rattle.theory.proofs.Halving.{Good}
 use Rattle.field.specs.Boxes.{HolesIn}
 use Rattle.tree.specs.Planting.{stretch, rows, StretchOn, Plantable}
 use Rattle.tree.proofs.Views.{mapped-same}
-
-pub from-append : (i p q : ℕ) → from i (p + q) ≡ from i p ++ from (i + p) q
-from-append i zero q = rw (zero-add, add-zero)
-from-append i (suc p) q =
-    let e : suc p + q ≡ suc (p + q) = omega arith in
-    let f : i + suc p ≡ suc i + p = omega arith in
-    rw (e, f, from-append (suc i) p q)
 
 -- ---- rows of nodes
 

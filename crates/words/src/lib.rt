@@ -7,7 +7,7 @@ ghost use Rattle.words.specs.Words.{bytes, Read, Written};
 ghost use Rattle.words.specs.Area.{Loaded, Saved};
 
 // A byte as a number.
-fn wide(x: u8) -> usize
+pub fn wide(x: u8) -> usize
     ensures { λ r. ⌜ (r ≡ x) × (r < 256) ⌝ }
 {
     x as usize

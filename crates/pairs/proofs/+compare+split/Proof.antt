@@ -16,7 +16,7 @@ use Rattle.pairs.proofs.split.Reads as split
 use Rattle.pairs.proofs.split.Kinds as split-kinds
 use Rattle.pairs.proofs.+compare+split.Lts-split as split-lts
 use Rattle.field.proofs.is_separated.Reads as is-separated
-use Rattle.pairs.proofs.longest_side.Reads as longest-side
+use Rattle.field.proofs.longest_side.Reads as longest-side
 use Rattle.pairs.proofs.put_pair.Reads as put-pair
 use Rattle.slate.proofs.cell.Reads as cell
 use Rattle.pairs.proofs.+compare+split.{statement}

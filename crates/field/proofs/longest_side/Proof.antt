@@ -5,10 +5,10 @@ use Prim.Native.Nat.{ℕ, _≤_, _+_, _-_, max}
 use native.Mathlib.Omega.{arith}
 use borrow.Author.Needs.{needs}
 use Rattle.paper.specs.Tree.{long, longest}
 use Rattle.field.specs.Boxes.{sideOn, boxOn}
-use Rattle.pairs.proofs.Longest.{longest-none, longest-more}
-use Rattle.pairs.proofs.longest_side.Statement.{statement}
-use Rattle.pairs.proofs.longest_side.Tie as tie
+use Rattle.field.proofs.Longest.{longest-none, longest-more}
+use Rattle.field.proofs.longest_side.Statement.{statement}
+use Rattle.field.proofs.longest_side.Tie as tie
 
 turn : (w : List ℕ) (k x most e r : ℕ) → most ≡ longest (boxOn w x k) → e ≡ long (sideOn w k x) → r ≡ max most e → r ≡ longest (boxOn w (x + 1) k)
 turn w k x most e r m f g = rw (longest-more w x k, g, m, f)
