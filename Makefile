@@ -1,8 +1,8 @@
-# run: the main job on an example. test: the gate.
+# run: the main job on an example. test: the gate. bench: the library's speed.
 SHELL := bash
 .SHELLFLAGS := -euo pipefail -c
 .ONESHELL:
-.PHONY: run test
+.PHONY: run test bench
 
 # The proved library, called from C on the record of sheet P3.
 run:
@@ -21,3 +21,8 @@ test:
 	cargo fmt --manifest-path host/Cargo.toml --check
 	cargo test --manifest-path host/Cargo.toml --quiet
 	tail -n 1 "$$log"
+
+# The library against the baseline of host/, as two tables in Markdown: times, and the instructions that valgrind counts.
+bench:
+	rt staticlib press
+	cargo run --manifest-path host/Cargo.toml --release --quiet --bin bench -- --instructions

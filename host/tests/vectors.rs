@@ -1,7 +1,13 @@
-//! The cases made outside the project, through the static library, with garbage in the work area before each call.
+//! The cases made outside the project: through the library, with garbage in the work area and the output before each call, and through the
+//! baseline.
 
+use host::baseline::program;
+use host::calls::{baseline, library, Call, Reply};
 use host::sha256::sha256;
 use host::{Answer, Noise, Part};
+
+const SMALL: &str = include_str!("../vectors/base-small.txt");
+const MEDIUM: &str = include_str!("../vectors/base-medium.txt");
 
 fn bytes(hex: &str) -> Vec<u8> {
     if hex == "-" {
@@ -24,90 +30,164 @@ fn is_output(found: &[u8], said: &str) -> bool {
     }
 }
 
-/// The answer that a case's words give.
-fn answer(words: &str) -> Answer {
+/// What a case's words give back.
+fn reply(words: &str) -> Reply {
     let word: Vec<&str> = words.split(' ').collect();
     let value = |i: usize| word.get(i).map_or(0, |w| w.parse().unwrap());
-    match word[0] {
-        "refused" => Answer {
-            number: value(1),
-            first: value(2),
-            second: 0,
-            third: 0,
-        },
-        "taken" => Answer {
-            number: 0,
-            first: value(1),
-            second: value(2),
-            third: 0,
-        },
+    let (number, first, second, third) = match word[0] {
+        "refused" => (value(1), value(2), 0, 0),
+        "taken" | "wrote" | "closest" => (0, value(1), value(2), value(3)),
+        "yes" => (0, 1, 0, 0),
+        "no" => (0, 0, 0, 0),
+        "part" => {
+            let (start, length) = (value(1), value(2));
+            return Reply::Part(Part { start, length });
+        }
         other => panic!("no such answer: {other}"),
-    }
+    };
+    Reply::Answer(Answer {
+        number,
+        first,
+        second,
+        third,
+    })
 }
 
-/// Runs one case; false where the library has no such call.
-fn run(line: &str, noise: &mut Noise) -> bool {
-    let field: Vec<&str> = line.split('|').collect();
-    let (call, input, said, output) = (field[0], bytes(field[1]), field[3], field[4]);
-    let number: Vec<usize> = field[2]
-        .split(' ')
-        .filter(|w| !w.is_empty())
-        .map(|w| w.parse().unwrap())
-        .collect();
-    let before = input.clone();
-    if !["check", "holes", "nodes", "pairs"].contains(&call) {
-        return false;
-    }
-    let mut work = noise.garbage(number[0]);
-    match call {
-        "check" => assert_eq!(host::check(&input, &mut work), answer(said), "{line:.200}"),
-        _ => {
-            let part = match call {
-                "holes" => host::holes(&input, &mut work),
-                "nodes" => host::nodes(&input, &mut work),
-                _ => host::pairs(&input, &mut work),
-            };
-            let word: Vec<u64> = said
-                .split(' ')
-                .skip(1)
-                .map(|w| w.parse().unwrap())
-                .collect();
-            assert_eq!(
-                part,
-                Part {
-                    start: word[0],
-                    length: word[1]
-                },
-                "{line:.200}"
-            );
-            let (start, end) = (part.start as usize, (part.start + part.length) as usize);
-            assert!(is_output(&input[start..end], output), "{line:.200}");
+/// A case of any call but the program.
+struct Case<'a> {
+    line: &'a str,
+    call: Call,
+    input: Vec<u8>,
+    work: usize,
+    room: usize,
+    reply: Reply,
+    output: &'a str,
+}
+
+impl<'a> Case<'a> {
+    fn new(line: &'a str) -> Case<'a> {
+        let field: Vec<&str> = line.split('|').collect();
+        let number: Vec<u64> = field[2]
+            .split(' ')
+            .map(|word| word.parse().unwrap())
+            .collect();
+        let (call, lengths) = match (field[0], &number[..]) {
+            ("build", [a, b, lengths @ ..]) => (Call::Build { a: *a, b: *b }, lengths),
+            ("pitch", [p, lengths @ ..]) => (Call::Pitch { p: *p }, lengths),
+            ("check", lengths) => (Call::Check, lengths),
+            ("closest", lengths) => (Call::Closest, lengths),
+            ("links", lengths) => (Call::Links, lengths),
+            ("holes", lengths) => (Call::Holes, lengths),
+            ("nodes", lengths) => (Call::Nodes, lengths),
+            ("pairs", lengths) => (Call::Pairs, lengths),
+            (other, _) => panic!("no such call: {other}"),
+        };
+        assert_eq!(lengths.len(), 1 + usize::from(call.writes()), "{line:.200}");
+        Case {
+            line,
+            call,
+            input: bytes(field[1]),
+            work: lengths[0] as usize,
+            room: lengths.get(1).map_or(0, |&room| room as usize),
+            reply: reply(field[3]),
+            output: field[4],
         }
     }
-    assert!(
-        work.iter().all(|&b| b == 0),
-        "the work area is not all zero: {line:.200}"
-    );
-    assert_eq!(input, before, "the input was written to: {line:.200}");
-    true
+
+    /// Compares what a call gave and the output that it left with the case's.
+    fn compare(&self, reply: Reply, out: &[u8]) {
+        let line = self.line;
+        assert_eq!(reply, self.reply, "{line:.200}");
+        let found = match reply {
+            Reply::Part(part) => &self.input[part.start as usize..][..part.length as usize],
+            Reply::Answer(_) => out,
+        };
+        assert!(is_output(found, self.output), "the output: {line:.200}");
+    }
+
+    /// Runs the case through the library; false where it has no such call.
+    fn run_library(&self, noise: &mut Noise) -> bool {
+        let line = self.line;
+        let before = self.input.clone();
+        let (mut work, mut out) = (noise.garbage(self.work), noise.garbage(self.room));
+        let Some(reply) = library(self.call, &self.input, &mut work, &mut out) else {
+            return false;
+        };
+        self.compare(reply, &out);
+        assert!(
+            work.iter().all(|&b| b == 0),
+            "the work area is not all zero: {line:.200}"
+        );
+        assert_eq!(self.input, before, "the input was written to: {line:.200}");
+        true
+    }
+
+    fn run_baseline(&self) {
+        let (reply, out) = baseline(self.call, &self.input, self.work, self.room);
+        self.compare(reply, &out);
+    }
 }
 
-/// How many cases of a file ran.
-fn run_file(text: &str) -> usize {
-    let mut noise = Noise(20271);
-    text.lines()
-        .filter(|l| !l.is_empty() && !l.starts_with('#'))
-        .filter(|l| run(l, &mut noise))
-        .count()
+fn lines() -> impl Iterator<Item = &'static str> {
+    SMALL
+        .lines()
+        .chain(MEDIUM.lines())
+        .filter(|line| !line.is_empty() && !line.starts_with('#'))
+}
+
+/// The cases of the program.
+fn program_lines() -> Vec<&'static str> {
+    lines()
+        .filter(|line| line.starts_with("program|"))
+        .collect()
+}
+
+/// The cases of all other calls.
+fn cases() -> Vec<Case<'static>> {
+    lines()
+        .filter(|line| !line.starts_with("program|"))
+        .map(Case::new)
+        .collect()
 }
 
 #[test]
-fn all_cases() {
-    let small = run_file(include_str!("../vectors/base-small.txt"));
-    let medium = run_file(include_str!("../vectors/base-medium.txt"));
-    assert_eq!(
-        small + medium,
-        150,
-        "cases of check, holes, nodes and pairs"
-    );
+fn all_cases_through_the_library() {
+    let mut noise = Noise(20271);
+    let cases = cases();
+    let run = cases.iter().filter(|c| c.run_library(&mut noise)).count();
+    let exported = cases.iter().filter(|c| c.call.is_exported()).count();
+    assert_eq!(run, exported);
+    let questions = if cfg!(feature = "questions") { 110 } else { 0 };
+    assert_eq!(run, 196 + questions, "cases of exported calls");
+}
+
+#[test]
+fn all_cases_through_the_baseline() {
+    let cases = cases();
+    assert_eq!(cases.len(), 306, "cases of calls on byte slices");
+    cases.iter().for_each(Case::run_baseline);
+}
+
+#[test]
+fn all_cases_of_the_program_through_the_baseline() {
+    let lines = program_lines();
+    assert_eq!(lines.len(), 39, "cases of the program");
+    for line in lines {
+        let field: Vec<&str> = line.split('|').collect();
+        let printed = program(&bytes(field[1]));
+        assert!(is_output(&printed, field[4]), "{line:.200}");
+        let text = String::from_utf8(printed).unwrap();
+        assert_eq!(
+            text.trim_end().replace('\n', " / "),
+            field[3],
+            "{line:.200}"
+        );
+    }
+}
+
+/// One byte over 65,536 is refusal 17, whatever the bytes are; 65,536 bytes are read as a record.
+#[test]
+fn a_long_input_of_the_program() {
+    assert_eq!(program(&vec![3; 65_537]), b"refused 17 65536\n");
+    assert_eq!(program(&vec![3; 65_536]), b"refused 9 771\n");
 }

@@ -1,0 +1,85 @@
+//! The covering: every two different holes have exactly one pair with one under each side.
+
+use super::pairs::read_pairs;
+use super::tree::Ranks;
+use super::{Refusal, Result};
+use std::ops::Range;
+
+/// Refusal 14: the least hole i, and for it the least j above it, that are not covered exactly once. The pairs are all separated.
+pub fn demand_cover(pairs: &[u8], ranks: &Ranks) -> Result<()> {
+    if covers(pairs, ranks) {
+        return Ok(());
+    }
+    match least_uncovered(pairs, ranks) {
+        Some((i, j)) => Err(Refusal {
+            number: 14,
+            value: (1_024 * i + j) as u64,
+        }),
+        None => Ok(()),
+    }
+}
+
+/// Whether the pairs cover every two holes exactly once. The holes under one side of a pair are a run of ranks, and the two runs of a pair that
+/// is separated do not meet; so the pair covers a rectangle of cells above the diagonal of the matrix of ranks. Gives up at the first cell that is
+/// marked twice, so that no more cells are marked than there are.
+fn covers(pairs: &[u8], ranks: &Ranks) -> bool {
+    let n = ranks.of_hole.len();
+    let mut cells = vec![0; n * n];
+    let mut marked = 0;
+    for (one, other) in read_pairs(pairs) {
+        let (one, other) = (&ranks.runs[one], &ranks.runs[other]);
+        let (rows, columns) = if one.start < other.start {
+            (one, other)
+        } else {
+            (other, one)
+        };
+        for row in rows.clone() {
+            if !mark(&mut cells[row * n..][columns.clone()]) {
+                return false;
+            }
+        }
+        marked += rows.len() * columns.len();
+    }
+    marked == n * (n - 1) / 2
+}
+
+/// Marks some cells of a row; false where one of them was marked before.
+fn mark(cells: &mut [u8]) -> bool {
+    let before = cells.iter().fold(0, |seen, &cell| seen | cell);
+    cells.fill(1);
+    before == 0
+}
+
+/// The least i, and for it the least j above it, not covered exactly once. A row costs the pairs and the holes, whatever the pairs are.
+fn least_uncovered(pairs: &[u8], ranks: &Ranks) -> Option<(usize, usize)> {
+    let n = ranks.of_hole.len();
+    (0..n).find_map(|i| {
+        let times = tally(pairs, ranks, ranks.of_hole[i]);
+        (i + 1..n)
+            .find(|&j| times[ranks.of_hole[j]] != 1)
+            .map(|j| (i, j))
+    })
+}
+
+/// How often the hole of one rank is covered with the hole of every other.
+fn tally(pairs: &[u8], ranks: &Ranks, rank: usize) -> Vec<i64> {
+    let mut steps = vec![0; ranks.of_hole.len() + 1];
+    let mut add = |run: &Range<usize>| {
+        steps[run.start] += 1;
+        steps[run.end] -= 1;
+    };
+    for (one, other) in read_pairs(pairs) {
+        let (one, other) = (&ranks.runs[one], &ranks.runs[other]);
+        if one.contains(&rank) {
+            add(other);
+        } else if other.contains(&rank) {
+            add(one);
+        }
+    }
+    let mut times = 0;
+    for step in &mut steps {
+        times += *step;
+        *step = times;
+    }
+    steps
+}

@@ -1,0 +1,104 @@
+//! Questions over a taken record.
+
+use super::pairs::read_pairs;
+use super::record::{take, Layout, Taken};
+use super::tree::{lowest_holes, Node};
+use super::{refuse_if, Result};
+use std::ops::Range;
+
+/// The closest two holes, the lower first, and their squared distance.
+#[derive(Clone, Copy, Debug, PartialEq, Eq, PartialOrd, Ord)]
+pub struct Closest {
+    pub squared_distance: u64,
+    pub i: u64,
+    pub j: u64,
+}
+
+impl Taken<'_> {
+    /// Refusal 16 where the ratio is not above a whole number.
+    pub fn demand_above(&self, whole: u64) -> Result<()> {
+        let ratio = self.layout.ratio;
+        refuse_if(!ratio.is_above(whole), 16, 256 * ratio.a + ratio.b)
+    }
+
+    /// The closest of the one-hole pairs: above ratio 2 and with two holes or more, that is the closest pair.
+    pub fn closest(&self) -> Option<Closest> {
+        read_pairs(self.pairs)
+            .filter_map(|(one, other)| match (self.nodes[one], self.nodes[other]) {
+                (Node::Leaf(p), Node::Leaf(q)) => Some(self.distance(p, q)),
+                _ => None,
+            })
+            .min()
+    }
+
+    fn distance(&self, p: u16, q: u16) -> Closest {
+        let (hole, other) = (self.holes[usize::from(p)], self.holes[usize::from(q)]);
+        Closest {
+            squared_distance: hole.squared_distance(other),
+            i: p.min(q).into(),
+            j: p.max(q).into(),
+        }
+    }
+}
+
+/// The closest pair of a record.
+pub fn closest(record: &[u8], work: usize) -> Result<Closest> {
+    let taken = take(record, work)?;
+    refuse_if(taken.layout.n == 1, 15, 0)?;
+    taken.demand_above(2)?;
+    Ok(taken
+        .closest()
+        .expect("two holes at a ratio above 2 have a one-hole pair"))
+}
+
+/// Whether every two holes of a record are at least p apart.
+pub fn pitch(record: &[u8], p: u64, work: usize) -> Result<bool> {
+    let taken = take(record, work)?;
+    if taken.layout.n == 1 {
+        return Ok(true);
+    }
+    taken.demand_above(2)?;
+    let p = u128::from(p);
+    Ok(taken
+        .closest()
+        .map_or(true, |c| u128::from(c.squared_distance) >= p * p))
+}
+
+/// The link list of a record: the lowest-numbered hole on each side of each pair, the smaller number first.
+pub fn links(record: &[u8], work: usize, room: usize) -> Result<Vec<u8>> {
+    let taken = take(record, work)?;
+    taken.demand_above(4)?;
+    let needed = 4 * taken.layout.m;
+    refuse_if(room < needed, 7, needed as u64)?;
+    let lowest = lowest_holes(&taken.nodes);
+    let mut list = Vec::with_capacity(needed);
+    for (one, other) in read_pairs(taken.pairs) {
+        let (p, q) = (lowest[one], lowest[other]);
+        list.extend(p.min(q).to_be_bytes());
+        list.extend(p.max(q).to_be_bytes());
+    }
+    Ok(list)
+}
+
+/// A section of a record that is taken, else the empty part at its start.
+fn section(record: &[u8], work: usize, which: impl Fn(Layout) -> Range<usize>) -> Range<usize> {
+    match take(record, work) {
+        Ok(taken) => which(taken.layout),
+        Err(_) => 0..0,
+    }
+}
+
+/// The part of a record that holds its holes.
+pub fn holes(record: &[u8], work: usize) -> Range<usize> {
+    section(record, work, |layout| layout.holes)
+}
+
+/// The part of a record that holds its nodes.
+pub fn nodes(record: &[u8], work: usize) -> Range<usize> {
+    section(record, work, |layout| layout.nodes)
+}
+
+/// The part of a record that holds its pairs.
+pub fn pairs(record: &[u8], work: usize) -> Range<usize> {
+    section(record, work, |layout| layout.pairs)
+}

@@ -1,0 +1,345 @@
+//! The library against the baseline on the same fields, in one process: times, and with `--instructions` the instructions that valgrind counts.
+//!
+//!     bench                     fields of 1,024 holes, then growing fields
+//!     bench growth              growing fields alone
+//!     bench ... --instructions  with instructions
+//!     bench one CALL LAYOUT N A B library|baseline|none
+//!                               one call alone, or only what comes before it: what valgrind runs
+
+use host::baseline::{self, WORK};
+use host::calls::{baseline, library, Call};
+use host::fields::{field, Layout};
+use host::Noise;
+use std::hint::black_box;
+use std::process::{Command, ExitCode};
+use std::time::{Duration, Instant};
+
+const LAYOUTS: [Layout; 4] = [
+    Layout::Uniform,
+    Layout::Clustered,
+    Layout::Grid,
+    Layout::Line,
+];
+const RATIOS: [u64; 4] = [2, 3, 9, 64];
+const CALLS: [&str; 5] = ["build", "check", "closest", "pitch", "links"];
+
+/// Instructions are counted where the library takes less than this: valgrind is some fifty times slower.
+const COUNTED: f64 = 0.4;
+
+/// A field at a ratio: what every call of a row is given.
+#[derive(Clone)]
+struct Sheet {
+    layout: Layout,
+    n: usize,
+    a: u64,
+    b: u64,
+    list: Vec<u8>,
+    record: Vec<u8>,
+}
+
+impl Sheet {
+    fn new(layout: Layout, n: usize, a: u64, b: u64) -> Sheet {
+        let list = field(layout, n, &mut Noise(2027));
+        let record = baseline::build(&list, a, b, WORK, usize::MAX).expect("a field within limits");
+        Sheet {
+            layout,
+            n,
+            a,
+            b,
+            list,
+            record,
+        }
+    }
+
+    fn pairs(&self) -> usize {
+        (self.record.len() - 6 - 12 * self.n) / 4
+    }
+
+    /// The call of a name; None where the ratio is too low for the question.
+    fn call(&self, name: &str) -> Option<Call> {
+        let (a, b) = (self.a, self.b);
+        match name {
+            "build" => Some(Call::Build { a, b }),
+            "check" => Some(Call::Check),
+            "closest" if a > 2 * b => Some(Call::Closest),
+            "pitch" if a > 2 * b => Some(Call::Pitch { p: 1 }),
+            "links" if a > 4 * b => Some(Call::Links),
+            _ => None,
+        }
+    }
+
+    fn input(&self, call: Call) -> &[u8] {
+        match call {
+            Call::Build { .. } => &self.list,
+            _ => &self.record,
+        }
+    }
+}
+
+/// Buffers to lend to the library, or lengths for the baseline.
+struct Buffers {
+    work: Vec<u8>,
+    out: Vec<u8>,
+}
+
+impl Buffers {
+    fn new(sheet: &Sheet) -> Buffers {
+        Buffers {
+            work: vec![1; WORK],
+            out: vec![1; sheet.record.len()],
+        }
+    }
+
+    fn run_library(&mut self, sheet: &Sheet, call: Call) {
+        let input = black_box(sheet.input(call));
+        black_box(library(call, input, &mut self.work, &mut self.out));
+    }
+
+    fn run_baseline(&self, sheet: &Sheet, call: Call) {
+        let input = black_box(sheet.input(call));
+        black_box(baseline(call, input, WORK, self.out.len()));
+    }
+}
+
+/// Seconds, or instructions, of the library and the baseline.
+#[derive(Clone, Copy)]
+struct Both {
+    library: f64,
+    baseline: f64,
+}
+
+impl Both {
+    fn ratio(self) -> f64 {
+        self.library / self.baseline
+    }
+}
+
+fn seconds(run: impl FnOnce()) -> f64 {
+    let start = Instant::now();
+    run();
+    start.elapsed().as_secs_f64()
+}
+
+fn median(mut times: Vec<f64>) -> f64 {
+    times.sort_by(f64::total_cmp);
+    times[times.len() / 2]
+}
+
+/// Medians of interleaved runs: 15, or fewer that last three seconds, but three at least.
+fn time(sheet: &Sheet, call: Call) -> Both {
+    let mut buffers = Buffers::new(sheet);
+    let (mut of_library, mut of_baseline) = (Vec::new(), Vec::new());
+    let start = Instant::now();
+    while of_library.len() < 3
+        || (of_library.len() < 15 && start.elapsed() < Duration::from_secs(3))
+    {
+        of_library.push(seconds(|| buffers.run_library(sheet, call)));
+        of_baseline.push(seconds(|| buffers.run_baseline(sheet, call)));
+    }
+    Both {
+        library: median(of_library),
+        baseline: median(of_baseline),
+    }
+}
+
+/// All instructions of a run of this program that makes one call, or none.
+fn instructions(sheet: &Sheet, name: &str, side: &str) -> Option<f64> {
+    let done = Command::new("valgrind")
+        .args(["--tool=callgrind", "--callgrind-out-file=/dev/null"])
+        .arg(std::env::current_exe().ok()?)
+        .args(["one", name, sheet.layout.name()])
+        .args([
+            sheet.n.to_string(),
+            sheet.a.to_string(),
+            sheet.b.to_string(),
+        ])
+        .arg(side)
+        .output()
+        .ok()?;
+    let said = String::from_utf8_lossy(&done.stderr);
+    let line = said.lines().find(|line| line.contains("Collected : "))?;
+    line.rsplit(' ').next()?.parse().ok()
+}
+
+/// The instructions of one call: a run that makes it less a run that makes none.
+fn count(sheet: &Sheet, name: &str) -> Option<Both> {
+    let none = instructions(sheet, name, "none")?;
+    Some(Both {
+        library: instructions(sheet, name, "library")? - none,
+        baseline: instructions(sheet, name, "baseline")? - none,
+    })
+}
+
+/// The two columns of a row that instructions fill, in thousands.
+fn counted(sheet: &Sheet, name: &str, times: Both) -> String {
+    let counts = (times.library < COUNTED)
+        .then(|| count(sheet, name))
+        .flatten();
+    match counts {
+        Some(both) => format!(
+            " {:.0} | {:.0} | {:.2} |",
+            both.library / 1e3,
+            both.baseline / 1e3,
+            both.ratio()
+        ),
+        None => " - | - | - |".to_string(),
+    }
+}
+
+fn head(columns: &[&str]) {
+    println!("| {} |", columns.join(" | "));
+    println!("|{}", "---|".repeat(columns.len()));
+}
+
+const COUNTS: [&str; 3] = [
+    "library, thousand instructions",
+    "baseline, thousand instructions",
+    "library / baseline",
+];
+
+/// A row for every call, layout and ratio.
+fn table(with_instructions: bool) {
+    println!("Fields of 1,024 holes, medians of interleaved runs.\n");
+    let mut columns = vec![
+        "call",
+        "field",
+        "ratio",
+        "pairs",
+        "library, ms",
+        "baseline, ms",
+        "library / baseline",
+        "library's call / its check",
+    ];
+    if with_instructions {
+        columns.extend(COUNTS);
+    }
+    head(&columns);
+    for layout in LAYOUTS {
+        for a in RATIOS {
+            rows(&Sheet::new(layout, 1_024, a, 1), with_instructions);
+        }
+    }
+}
+
+/// The rows of one field at one ratio.
+fn rows(sheet: &Sheet, with_instructions: bool) {
+    let check = time(sheet, Call::Check);
+    for name in CALLS {
+        let Some(call) = sheet.call(name).filter(|call| call.is_exported()) else {
+            continue;
+        };
+        let times = match call {
+            Call::Check => check,
+            _ => time(sheet, call),
+        };
+        let share = times.library / check.library;
+        println!(
+            "| {name} | {} | {}/{} | {} | {:.3} | {:.3} | {:.2} | {share:.2} |{}",
+            sheet.layout.name(),
+            sheet.a,
+            sheet.b,
+            sheet.pairs(),
+            1e3 * times.library,
+            1e3 * times.baseline,
+            times.ratio(),
+            if with_instructions {
+                counted(sheet, name, times)
+            } else {
+                String::new()
+            }
+        );
+    }
+}
+
+/// How build and check grow with the field: uniform fields at 3/1.
+fn growth(with_instructions: bool) {
+    println!("\nUniform fields at 3/1. The growth is the library's time against that of half the holes.\n");
+    let mut columns = vec![
+        "call",
+        "holes",
+        "pairs",
+        "library, ms",
+        "baseline, ms",
+        "library / baseline",
+        "growth",
+    ];
+    if with_instructions {
+        columns.extend(COUNTS);
+    }
+    head(&columns);
+    for name in ["build", "check"] {
+        let mut before = None;
+        for n in [128, 256, 512, 1_024] {
+            let sheet = Sheet::new(Layout::Uniform, n, 3, 1);
+            if let Some(call) = sheet.call(name).filter(|call| call.is_exported()) {
+                before = Some(growth_row(&sheet, name, call, before, with_instructions));
+            }
+        }
+    }
+}
+
+/// One row of growth; gives the library's time.
+fn growth_row(
+    sheet: &Sheet,
+    name: &str,
+    call: Call,
+    before: Option<f64>,
+    with_instructions: bool,
+) -> f64 {
+    let times = time(sheet, call);
+    println!(
+        "| {name} | {} | {} | {:.3} | {:.3} | {:.2} | {} |{}",
+        sheet.n,
+        sheet.pairs(),
+        1e3 * times.library,
+        1e3 * times.baseline,
+        times.ratio(),
+        before.map_or("-".to_string(), |b| format!("{:.2}", times.library / b)),
+        if with_instructions {
+            counted(sheet, name, times)
+        } else {
+            String::new()
+        }
+    );
+    times.library
+}
+
+/// One call alone, for valgrind: all sides but the call itself do the same.
+fn one(words: &[&str]) -> Option<()> {
+    let [name, layout, n, a, b, side] = words else {
+        return None;
+    };
+    let sheet = Sheet::new(
+        Layout::named(layout)?,
+        n.parse().ok()?,
+        a.parse().ok()?,
+        b.parse().ok()?,
+    );
+    let call = sheet.call(name)?;
+    let mut buffers = Buffers::new(&sheet);
+    match *side {
+        "library" => buffers.run_library(&sheet, call),
+        "baseline" => buffers.run_baseline(&sheet, call),
+        "none" => (),
+        _ => return None,
+    }
+    Some(())
+}
+
+fn main() -> ExitCode {
+    let words: Vec<String> = std::env::args().skip(1).collect();
+    let words: Vec<&str> = words.iter().map(String::as_str).collect();
+    let done = match &words[..] {
+        ["one", rest @ ..] => one(rest),
+        ["growth"] => Some(growth(false)),
+        ["growth", "--instructions"] => Some(growth(true)),
+        [] => Some((table(false), growth(false))).map(|_| ()),
+        ["--instructions"] => Some((table(true), growth(true))).map(|_| ()),
+        _ => None,
+    };
+    if done.is_none() {
+        eprintln!("usage: bench [growth] [--instructions]");
+        return ExitCode::from(2);
+    }
+    ExitCode::SUCCESS
+}

@@ -1,0 +1,99 @@
+//! The largest records: taken ones, and ones made to cost the checker as much as can be.
+
+mod common;
+
+use common::Rig;
+use host::baseline::{self, WORK};
+use host::calls::{Call, Reply};
+use host::fields::{field, Layout};
+use host::foreign::{Cut, Draft};
+use host::Answer;
+use std::time::Instant;
+
+const MOST_PAIRS: usize = 523_776;
+
+/// Compares the check of a record, and says how long the two took together.
+fn check(rig: &mut Rig, what: &str, draft: &Draft) -> Answer {
+    let record = draft.bytes();
+    let start = Instant::now();
+    let reply = rig.compare_once(Call::Check, &record, WORK, 0);
+    println!("{what}: {reply:?} in {:?}", start.elapsed());
+    match reply {
+        Reply::Answer(answer) => answer,
+        Reply::Part(_) => unreachable!("a check answers"),
+    }
+}
+
+/// The parts of a record of 1,024 holes.
+fn full(rig: &mut Rig, layout: Layout, a: u8, b: u8) -> Draft {
+    let list = field(layout, 1_024, &mut rig.noise);
+    let record = baseline::build(&list, a.into(), b.into(), WORK, usize::MAX);
+    Draft::of_record(&record.expect("a field within the limits"))
+}
+
+fn refused(number: u64, value: u64) -> Answer {
+    Answer {
+        number,
+        first: value,
+        ..Answer::default()
+    }
+}
+
+/// One big pair over and over: the covering is given up at the first doubled cell.
+#[test]
+fn one_big_pair_over_and_over() {
+    let mut rig = Rig::new(21);
+    let mut draft = full(&mut rig, Layout::Uniform, 1, 8);
+    let pair = draft.pairs[0];
+    draft.pairs = vec![pair; MOST_PAIRS];
+    let answer = check(&mut rig, "one pair over and over", &draft);
+    assert_eq!(answer.number, 14);
+}
+
+/// The largest record is taken; without the pair of its last two holes, the search goes through every row.
+#[test]
+fn the_largest_record_and_its_last_two_holes() {
+    let mut rig = Rig::new(22);
+    let mut draft = full(&mut rig, Layout::Leaning, 64, 1);
+    assert_eq!(draft.pairs.len(), MOST_PAIRS);
+    let taken = check(&mut rig, "the largest record", &draft);
+    assert_eq!((taken.number, taken.second), (0, MOST_PAIRS as u64));
+    let last = draft.pairs.iter().position(|&[p, q]| {
+        let (p, q) = (draft.nodes[usize::from(p)], draft.nodes[usize::from(q)]);
+        p[1].min(q[1]) == 1_022
+    });
+    draft
+        .pairs
+        .remove(last.expect("a pair of the last two holes"));
+    let answer = check(&mut rig, "without the last two holes", &draft);
+    assert_eq!(answer, refused(14, 1_024 * 1_022 + 1_023));
+}
+
+/// Trees as deep as trees can be, up to 1,024 holes.
+#[test]
+fn the_deepest_trees() {
+    let mut rig = Rig::new(23);
+    for (layout, n, a, b) in [(Layout::Line, 400, 1, 8), (Layout::Uniform, 1_024, 3, 1)] {
+        let list = field(layout, n, &mut rig.noise);
+        let mut draft = Draft::new(&list, a, b, Cut::Caterpillar, &mut rig.noise);
+        let taken = check(&mut rig, "a caterpillar", &draft);
+        assert_eq!(taken.number, 0);
+        let pair = draft.pairs[1];
+        draft.pairs[0] = pair;
+        let answer = check(&mut rig, "with a pair in place of another", &draft);
+        assert_eq!(answer.number, 14);
+    }
+}
+
+/// The counts just above the limits.
+#[test]
+fn counts_above_the_limits() {
+    let mut rig = Rig::new(24);
+    let mut draft = full(&mut rig, Layout::Leaning, 64, 1);
+    draft.pairs.push(draft.pairs[0]);
+    let answer = check(&mut rig, "a pair too many", &draft);
+    assert_eq!(answer, refused(9, MOST_PAIRS as u64 + 1));
+    draft.holes.push([255; 4]);
+    let answer = check(&mut rig, "a hole too many", &draft);
+    assert_eq!(answer, refused(3, 1_025));
+}
