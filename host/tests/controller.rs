@@ -146,7 +146,7 @@ fn files_and_lines_that_are_no_field() {
         "1  2\n",
         "1 2\n\n3 4\n",
         "1,2\n",
-        "1 2\03\n",
+        "1 2\x003\n",
         "1 00000000000000000000000000000000000\n",
     ];
     for (i, line) in lines.into_iter().enumerate() {

@@ -50,7 +50,7 @@ fn built(list: &[u8], (a, b): (u8, u8)) -> Vec<u8> {
 fn any_p(record: &[u8], noise: &mut Noise) -> u64 {
     let least = Sheet::read(record)
         .and_then(|sheet| sheet.closest())
-        .map_or(0, |(distance, ..)| distance.isqrt());
+        .map_or(0, |(distance, ..)| (distance as f64).sqrt() as u64);
     match noise.below(8) {
         0 => noise.next(),
         1 => noise.pick(&[0, 1, 65_535, 65_536, 92_681, 92_682, 1 << 32, u64::MAX]),

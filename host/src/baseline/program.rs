@@ -1,5 +1,6 @@
 //! What the small program prints.
 
+use super::questions::Closest;
 use super::record::{take, Taken};
 use super::{refuse_if, Result, WORK};
 
@@ -22,11 +23,17 @@ fn read(input: &[u8]) -> Result<Taken<'_>> {
 
 fn verdict(taken: &Taken) -> String {
     let (n, m) = (taken.layout.n, taken.layout.m);
-    let closest = match taken.closest() {
-        _ if n == 1 => "none".to_string(),
-        _ if !taken.layout.ratio.is_above(2) => "low".to_string(),
-        Some(c) => format!("{} {} {}", c.i, c.j, c.squared_distance),
-        None => unreachable!("two holes at a ratio above 2 have a one-hole pair"),
+    let closest = if n == 1 {
+        "none".to_string()
+    } else if !taken.layout.ratio.is_above(2) {
+        "low".to_string()
+    } else {
+        let Closest {
+            squared_distance,
+            i,
+            j,
+        } = taken.closest();
+        format!("{i} {j} {squared_distance}")
     };
     format!("points {n}\npairs {m}\nclosest {closest}\n")
 }

@@ -21,14 +21,15 @@ impl Taken<'_> {
         refuse_if(!ratio.is_above(whole), 16, 256 * ratio.a + ratio.b)
     }
 
-    /// The closest of the one-hole pairs: above ratio 2 and with two holes or more, that is the closest pair.
-    pub fn closest(&self) -> Option<Closest> {
+    /// The closest pair of two holes or more at a ratio above 2: the closest of the one-hole pairs.
+    pub fn closest(&self) -> Closest {
         read_pairs(self.pairs)
             .filter_map(|(one, other)| match (self.nodes[one], self.nodes[other]) {
                 (Node::Leaf(p), Node::Leaf(q)) => Some(self.distance(p, q)),
                 _ => None,
             })
             .min()
+            .expect("two holes at a ratio above 2 have a one-hole pair")
     }
 
     fn distance(&self, p: u16, q: u16) -> Closest {
@@ -46,9 +47,7 @@ pub fn closest(record: &[u8], work: usize) -> Result<Closest> {
     let taken = take(record, work)?;
     refuse_if(taken.layout.n == 1, 15, 0)?;
     taken.demand_above(2)?;
-    Ok(taken
-        .closest()
-        .expect("two holes at a ratio above 2 have a one-hole pair"))
+    Ok(taken.closest())
 }
 
 /// Whether every two holes of a record are at least p apart.
@@ -58,10 +57,9 @@ pub fn pitch(record: &[u8], p: u64, work: usize) -> Result<bool> {
         return Ok(true);
     }
     taken.demand_above(2)?;
+    let closest = taken.closest();
     let p = u128::from(p);
-    Ok(taken
-        .closest()
-        .map_or(true, |c| u128::from(c.squared_distance) >= p * p))
+    Ok(u128::from(closest.squared_distance) >= p * p)
 }
 
 /// The link list of a record: the lowest-numbered hole on each side of each pair, the smaller number first.

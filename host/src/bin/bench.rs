@@ -328,18 +328,20 @@ fn one(words: &[&str]) -> Option<()> {
 
 fn main() -> ExitCode {
     let words: Vec<String> = std::env::args().skip(1).collect();
-    let words: Vec<&str> = words.iter().map(String::as_str).collect();
-    let done = match &words[..] {
-        ["one", rest @ ..] => one(rest),
-        ["growth"] => Some(growth(false)),
-        ["growth", "--instructions"] => Some(growth(true)),
-        [] => Some((table(false), growth(false))).map(|_| ()),
-        ["--instructions"] => Some((table(true), growth(true))).map(|_| ()),
-        _ => None,
-    };
-    if done.is_none() {
-        eprintln!("usage: bench [growth] [--instructions]");
-        return ExitCode::from(2);
+    let mut words: Vec<&str> = words.iter().map(String::as_str).collect();
+    let with_instructions = words.last() == Some(&"--instructions");
+    words.truncate(words.len() - usize::from(with_instructions));
+    match &words[..] {
+        [] => {
+            table(with_instructions);
+            growth(with_instructions);
+        }
+        ["growth"] => growth(with_instructions),
+        ["one", rest @ ..] if one(rest).is_some() => (),
+        _ => {
+            eprintln!("usage: bench [growth] [--instructions]");
+            return ExitCode::from(2);
+        }
     }
     ExitCode::SUCCESS
 }

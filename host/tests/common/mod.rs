@@ -61,7 +61,7 @@ impl Rig {
     pub fn compare(&mut self, call: Call, input: &[u8], work: usize, room: usize) -> Reply {
         let (reply, output) = self.over_garbage(call, input, work, room);
         if call.is_exported() {
-            let leftovers = (self.tiles(work), self.tiles(output.len()));
+            let leftovers = (self.leftovers(work), self.leftovers(output.len()));
             self.run(call, input, leftovers, reply, &output);
             if !input.is_empty() && self.noise.once_in(8) {
                 self.leftover = input.to_vec();
@@ -116,11 +116,17 @@ impl Rig {
         assert!(guarded, "guards: {}", said(call, input, &held));
     }
 
-    /// A buffer filled with an earlier input over and over, from some place on.
-    fn tiles(&mut self, length: usize) -> Vec<u8> {
-        let from = self.noise.index(self.leftover.len());
-        let times = 1 + (from + length) / self.leftover.len();
-        self.leftover.repeat(times)[from..from + length].to_vec()
+    /// A buffer as other work might leave it: filled with an earlier input over and over, from some place on, or with one byte.
+    fn leftovers(&mut self, length: usize) -> Vec<u8> {
+        match self.noise.below(8) {
+            0 => vec![0; length],
+            1 => vec![255; length],
+            _ => {
+                let from = self.noise.index(self.leftover.len());
+                let times = 1 + (from + length) / self.leftover.len();
+                self.leftover.repeat(times)[from..from + length].to_vec()
+            }
+        }
     }
 }
 
