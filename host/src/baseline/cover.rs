@@ -34,7 +34,7 @@ fn covers(pairs: &[u8], ranks: &Ranks) -> bool {
             (other, one)
         };
         for row in rows.clone() {
-            if !mark(&mut cells[row * n..][columns.clone()]) {
+            if !mark(&mut cells[row * n + columns.start..row * n + columns.end]) {
                 return false;
             }
         }
@@ -45,8 +45,13 @@ fn covers(pairs: &[u8], ranks: &Ranks) -> bool {
 
 /// Marks some cells of a row; false where one of them was marked before.
 fn mark(cells: &mut [u8]) -> bool {
-    let before = cells.iter().fold(0, |seen, &cell| seen | cell);
-    cells.fill(1);
+    if let [cell] = cells {
+        return std::mem::replace(cell, 1) == 0;
+    }
+    let mut before = 0;
+    for cell in cells {
+        before |= std::mem::replace(cell, 1);
+    }
     before == 0
 }
 

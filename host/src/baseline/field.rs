@@ -60,6 +60,8 @@ pub fn demand_distinct(holes: &[Hole]) -> Result<()> {
 pub struct Ratio {
     pub a: u64,
     pub b: u64,
+    /// b² and (2b + a)².
+    weights: [u64; 2],
 }
 
 impl Ratio {
@@ -67,7 +69,8 @@ impl Ratio {
     pub fn new(a: u64, b: u64) -> Result<Ratio> {
         let in_range = (1..=64).contains(&a) && (1..=8).contains(&b);
         refuse_if(!in_range, 4, 0)?;
-        Ok(Ratio { a, b })
+        let weights = [square(b), square(2 * b + a)];
+        Ok(Ratio { a, b, weights })
     }
 
     /// Whether two nodes of these shapes are separated.
@@ -76,7 +79,7 @@ impl Ratio {
         let dy = u64::from(one.centre.1.abs_diff(other.centre.1));
         let d = dx * dx + dy * dy;
         let g = one.diagonal.max(other.diagonal);
-        d != 0 && square(self.b) * d >= square(2 * self.b + self.a) * g
+        d != 0 && self.weights[0] * d >= self.weights[1] * g
     }
 
     /// Whether the ratio is above a whole number.

@@ -2,13 +2,14 @@
 
 use super::field::{Ratio, Shape};
 use super::tree::Node;
-use super::{refuse_if, two_bytes, Result};
+use super::{four_bytes, refuse_if, Result};
 
 /// The pairs that bytes give, as two node numbers each.
 pub fn read_pairs(bytes: &[u8]) -> impl Iterator<Item = (usize, usize)> + '_ {
-    bytes
-        .chunks_exact(4)
-        .map(|c| (two_bytes(c, 0).into(), two_bytes(c, 2).into()))
+    bytes.chunks_exact(4).map(|c| {
+        let both = four_bytes(c, 0) as usize;
+        (both >> 16, both & 0xFFFF)
+    })
 }
 
 /// Refusal 13: the least pair that names a node too high or two nodes that are not separated.

@@ -7,7 +7,7 @@ use super::{refuse_if, Result};
 use std::ops::Range;
 
 /// The closest two holes, the lower first, and their squared distance.
-#[derive(Clone, Copy, Debug, PartialEq, Eq, PartialOrd, Ord)]
+#[derive(Clone, Copy, Debug, PartialEq, Eq)]
 pub struct Closest {
     pub squared_distance: u64,
     pub i: u64,
@@ -23,22 +23,25 @@ impl Taken<'_> {
 
     /// The closest pair of two holes or more at a ratio above 2: the closest of the one-hole pairs.
     pub fn closest(&self) -> Closest {
-        read_pairs(self.pairs)
+        let least = read_pairs(self.pairs)
             .filter_map(|(one, other)| match (self.nodes[one], self.nodes[other]) {
-                (Node::Leaf(p), Node::Leaf(q)) => Some(self.distance(p, q)),
+                (Node::Leaf(p), Node::Leaf(q)) => Some(self.order(p, q)),
                 _ => None,
             })
             .min()
-            .expect("two holes at a ratio above 2 have a one-hole pair")
+            .expect("two holes at a ratio above 2 have a one-hole pair");
+        Closest {
+            squared_distance: least >> 20,
+            i: least >> 10 & 1_023,
+            j: least & 1_023,
+        }
     }
 
-    fn distance(&self, p: u16, q: u16) -> Closest {
+    /// One number for the order of two holes: least distance, then least i, then least j. Hole numbers have 10 bits, a squared distance 34.
+    fn order(&self, p: u16, q: u16) -> u64 {
         let (hole, other) = (self.holes[usize::from(p)], self.holes[usize::from(q)]);
-        Closest {
-            squared_distance: hole.squared_distance(other),
-            i: p.min(q).into(),
-            j: p.max(q).into(),
-        }
+        let (i, j) = (u64::from(p.min(q)), u64::from(p.max(q)));
+        hole.squared_distance(other) << 20 | i << 10 | j
     }
 }
 
@@ -72,8 +75,8 @@ pub fn links(record: &[u8], work: usize, room: usize) -> Result<Vec<u8>> {
     let mut list = Vec::with_capacity(needed);
     for (one, other) in read_pairs(taken.pairs) {
         let (p, q) = (lowest[one], lowest[other]);
-        list.extend(p.min(q).to_be_bytes());
-        list.extend(p.max(q).to_be_bytes());
+        let ([a, b], [c, d]) = (p.min(q).to_be_bytes(), p.max(q).to_be_bytes());
+        list.extend_from_slice(&[a, b, c, d]);
     }
     Ok(list)
 }
