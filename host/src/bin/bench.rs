@@ -12,7 +12,6 @@ use host::fields::{field, Layout};
 use host::Noise;
 use std::hint::black_box;
 use std::process::{Command, ExitCode};
-use std::time::{Duration, Instant};
 
 const LAYOUTS: [Layout; 4] = [
     Layout::Uniform,
@@ -114,10 +113,33 @@ impl Both {
     }
 }
 
+/// C's struct timespec on x86-64 Linux.
+#[repr(C)]
+struct Timespec {
+    seconds: i64,
+    nanoseconds: i64,
+}
+
+extern "C" {
+    fn clock_gettime(clock: i32, time: *mut Timespec) -> i32;
+}
+
+/// Seconds that this thread has run on a processor, which other work on the machine does not lengthen.
+fn processor_seconds() -> f64 {
+    const CLOCK_THREAD_CPUTIME_ID: i32 = 3;
+    let mut time = Timespec {
+        seconds: 0,
+        nanoseconds: 0,
+    };
+    let failed = unsafe { clock_gettime(CLOCK_THREAD_CPUTIME_ID, &mut time) };
+    assert_eq!(failed, 0, "the thread's clock");
+    time.seconds as f64 + 1e-9 * time.nanoseconds as f64
+}
+
 fn seconds(run: impl FnOnce()) -> f64 {
-    let start = Instant::now();
+    let start = processor_seconds();
     run();
-    start.elapsed().as_secs_f64()
+    processor_seconds() - start
 }
 
 fn median(mut times: Vec<f64>) -> f64 {
@@ -125,14 +147,12 @@ fn median(mut times: Vec<f64>) -> f64 {
     times[times.len() / 2]
 }
 
-/// Medians of interleaved runs: 15, or fewer that last three seconds, but three at least.
+/// Medians of interleaved runs: 15, or fewer that take three seconds, but three at least.
 fn time(sheet: &Sheet, call: Call) -> Both {
     let mut buffers = Buffers::new(sheet);
     let (mut of_library, mut of_baseline) = (Vec::new(), Vec::new());
-    let start = Instant::now();
-    while of_library.len() < 3
-        || (of_library.len() < 15 && start.elapsed() < Duration::from_secs(3))
-    {
+    let start = processor_seconds();
+    while of_library.len() < 3 || (of_library.len() < 15 && processor_seconds() - start < 3.0) {
         of_library.push(seconds(|| buffers.run_library(sheet, call)));
         of_baseline.push(seconds(|| buffers.run_baseline(sheet, call)));
     }
@@ -199,7 +219,7 @@ const COUNTS: [&str; 3] = [
 
 /// A row for every call, layout and ratio.
 fn table(with_instructions: bool) {
-    println!("Fields of 1,024 holes, medians of interleaved runs.\n");
+    println!("Fields of 1,024 holes, medians of interleaved runs, processor time of the thread.\n");
     let mut columns = vec![
         "call",
         "field",
