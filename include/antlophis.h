@@ -31,6 +31,17 @@ antlophis_answer antlophis_build(const uint8_t *holes, size_t holes_len, uint64_
 /* Takes a record exactly when it meets document 01's record rules: first = holes, second = pairs. */
 antlophis_answer antlophis_check(const uint8_t *record, size_t record_len, uint8_t *work, size_t work_len);
 
+/* The closest two holes: first and second are their numbers, the lower one first, third = their squared distance. Refused with 15 for one hole,
+ * with 16 at a ratio of 2 or less. */
+antlophis_answer antlophis_closest(const uint8_t *record, size_t record_len, uint8_t *work, size_t work_len);
+
+/* Whether every two holes are at least p apart: first = 1 for yes, 0 for no. Refused with 16 for two holes or more at a ratio of 2 or less. */
+antlophis_answer antlophis_pitch(const uint8_t *record, size_t record_len, uint64_t p, uint8_t *work, size_t work_len);
+
+/* For each pair in order the lowest-numbered hole on each side, the smaller number first, two bytes each, high byte first: first = bytes
+ * written, 4 * pairs. Refused with 16 at a ratio of 4 or less, with 7 where out is too short. */
+antlophis_answer antlophis_links(const uint8_t *record, size_t record_len, uint8_t *work, size_t work_len, uint8_t *out, size_t out_len);
+
 /* The holes, the nodes, the pairs of a record, without their count; the empty part at the start of a record that is refused. */
 antlophis_part antlophis_holes(const uint8_t *record, size_t record_len, uint8_t *work, size_t work_len);
 antlophis_part antlophis_nodes(const uint8_t *record, size_t record_len, uint8_t *work, size_t work_len);

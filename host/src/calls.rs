@@ -35,14 +35,6 @@ impl Call {
     pub fn writes(self) -> bool {
         matches!(self, Call::Build { .. } | Call::Links)
     }
-
-    /// Whether the library exports the call.
-    pub fn is_exported(self) -> bool {
-        match self {
-            Call::Closest | Call::Pitch { .. } | Call::Links => cfg!(feature = "questions"),
-            _ => true,
-        }
-    }
 }
 
 /// What a call gives back.
@@ -52,24 +44,18 @@ pub enum Reply {
     Part(Part),
 }
 
-/// Runs a call through the library; None where it is not exported.
-pub fn library(call: Call, input: &[u8], work: &mut [u8], out: &mut [u8]) -> Option<Reply> {
-    let _ = &out;
-    Some(match call {
+/// Runs a call through the library.
+pub fn library(call: Call, input: &[u8], work: &mut [u8], out: &mut [u8]) -> Reply {
+    match call {
         Call::Check => Reply::Answer(crate::check(input, work)),
         Call::Holes => Reply::Part(crate::holes(input, work)),
         Call::Nodes => Reply::Part(crate::nodes(input, work)),
         Call::Pairs => Reply::Part(crate::pairs(input, work)),
         Call::Build { a, b } => Reply::Answer(crate::build(input, a, b, work, out)),
-        #[cfg(feature = "questions")]
         Call::Closest => Reply::Answer(crate::closest(input, work)),
-        #[cfg(feature = "questions")]
         Call::Pitch { p } => Reply::Answer(crate::pitch(input, p, work)),
-        #[cfg(feature = "questions")]
         Call::Links => Reply::Answer(crate::links(input, work, out)),
-        #[allow(unreachable_patterns)]
-        _ => return None,
-    })
+    }
 }
 
 /// Runs a call through the baseline: what it gives back, and the whole output that it leaves.

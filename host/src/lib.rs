@@ -6,12 +6,10 @@ mod build_calls;
 pub mod calls;
 pub mod fields;
 pub mod foreign;
-#[cfg(feature = "questions")]
 mod questions_calls;
 pub mod sha256;
 
 pub use build_calls::build;
-#[cfg(feature = "questions")]
 pub use questions_calls::{closest, links, pitch};
 
 /// What a call answers: number 0 is done, any other is a refusal with its value first.

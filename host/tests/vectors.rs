@@ -105,21 +105,18 @@ impl<'a> Case<'a> {
         assert!(is_output(found, self.output), "the output: {line:.200}");
     }
 
-    /// Runs the case through the library; false where it has no such call.
-    fn run_library(&self, noise: &mut Noise) -> bool {
+    /// Runs the case through the library.
+    fn run_library(&self, noise: &mut Noise) {
         let line = self.line;
         let before = self.input.clone();
         let (mut work, mut out) = (noise.garbage(self.work), noise.garbage(self.room));
-        let Some(reply) = library(self.call, &self.input, &mut work, &mut out) else {
-            return false;
-        };
+        let reply = library(self.call, &self.input, &mut work, &mut out);
         self.compare(reply, &out);
         assert!(
             work.iter().all(|&b| b == 0),
             "the work area is not all zero: {line:.200}"
         );
         assert_eq!(self.input, before, "the input was written to: {line:.200}");
-        true
     }
 
     fn run_baseline(&self) {
@@ -154,11 +151,8 @@ fn cases() -> Vec<Case<'static>> {
 fn all_cases_through_the_library() {
     let mut noise = Noise(20271);
     let cases = cases();
-    let run = cases.iter().filter(|c| c.run_library(&mut noise)).count();
-    let exported = cases.iter().filter(|c| c.call.is_exported()).count();
-    assert_eq!(run, exported);
-    let questions = if cfg!(feature = "questions") { 110 } else { 0 };
-    assert_eq!(run, 196 + questions, "cases of exported calls");
+    assert_eq!(cases.len(), 306, "cases of calls on byte slices");
+    cases.iter().for_each(|case| case.run_library(&mut noise));
 }
 
 #[test]

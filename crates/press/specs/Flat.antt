@@ -1,5 +1,6 @@
 -- What C gets of each answer: four numbers, or the place of a part, and the work area all zero. Assumes nothing.
 use mathlib.Core.Path.{_≡_}
+use mathlib.Core.Bool.{Bool, true, false}
 use mathlib.Core.List.{List}
 use Prim.Native.Nat.{ℕ}
 use lib.ListN.{length, replicate}
@@ -25,6 +26,15 @@ flat values (given t) = values t
 -- the holes and the pairs of a taken record
 abbrev pub counts : ℕ × ℕ → Numbers
 counts t = record { number = 0; first = t .0; second = t .1; third = 0 }
+
+-- the closest two holes and their squared distance
+abbrev pub two-holes : ℕ × ℕ × ℕ → Numbers
+two-holes t = record { number = 0; first = t .0; second = t .1; third = t .2 }
+
+-- whether the pitch is kept
+abbrev pub yes-or-no : Bool → Numbers
+yes-or-no true = record { number = 0; first = 1; second = 0; third = 0 }
+yes-or-no false = record { number = 0; first = 0; second = 0; third = 0 }
 
 -- the bytes that a call wrote
 abbrev pub bytes-written : ℕ → Numbers

@@ -1,10 +1,13 @@
 // The library as C sees it: each call of include/antlophis.h. An answer is plain numbers, a part of a record is its place.
 ghost use Rattle.paper.specs.Record.{holes-part, nodes-part, pairs-part};
 ghost use Rattle.paper.specs.Refusals.{build, check};
+ghost use Rattle.paper.specs.Questions.{closest, pitch, links};
 ghost use Rattle.paper.specs.Answers.{refuses};
-ghost use Rattle.press.specs.Flat.{flat, counts, Says, Tells, Finishes, HandsOver};
+ghost use Rattle.press.specs.Flat.{flat, counts, two-holes, yes-or-no, Says, Tells, Finishes, HandsOver};
 ghost use lib.ListN.{length};
 use paper::Checked;
+use paper::Closest;
+use paper::Pitch;
 use paper::Refusal;
 use paper::Wrote;
 
@@ -69,6 +72,60 @@ pub extern "C" fn antlophis_check(bytes: &[u8], work: &mut [u8]) -> Answer
             number: 0,
             first: n,
             second: m,
+            third: 0,
+        },
+    }
+}
+
+// The closest pair of a record's holes: the first two numbers are the holes, the third is their squared distance.
+#[no_mangle]
+pub extern "C" fn antlophis_closest(bytes: &[u8], work: &mut [u8]) -> Answer
+    ensures { λ r. ⌜ Tells (flat two-holes (closest (now (bytes .entry)) (length (now (work .entry))))) r (now (work .entry)) (now (work .exit)) ⌝ }
+{
+    match questions::closest(bytes, work) {
+        Closest::Refused(x) => refusal(x),
+        Closest::Holes(i, j, d) => Answer {
+            number: 0,
+            first: i,
+            second: j,
+            third: d,
+        },
+    }
+}
+
+// Whether every two holes of a record are at least p apart: the first number is 1 for yes and 0 for no.
+#[no_mangle]
+pub extern "C" fn antlophis_pitch(bytes: &[u8], p: u64, work: &mut [u8]) -> Answer
+    ensures { λ r. ⌜ Tells (flat yes-or-no (pitch (now (bytes .entry)) p (length (now (work .entry))))) r (now (work .entry)) (now (work .exit)) ⌝ }
+{
+    match questions::pitch(bytes, p, work) {
+        Pitch::Refused(x) => refusal(x),
+        Pitch::Yes => Answer {
+            number: 0,
+            first: 1,
+            second: 0,
+            third: 0,
+        },
+        Pitch::No => Answer {
+            number: 0,
+            first: 0,
+            second: 0,
+            third: 0,
+        },
+    }
+}
+
+// Writes the links of a record into an output: the first number is how many bytes they have.
+#[no_mangle]
+pub extern "C" fn antlophis_links(bytes: &[u8], work: &mut [u8], out: &mut [u8]) -> Answer
+    ensures { λ r. ⌜ Finishes (links (now (bytes .entry)) (length (now (work .entry))) (length (now (out .entry)))) r (now (work .entry)) (now (work .exit)) (now (out .entry)) (now (out .exit)) ⌝ }
+{
+    match questions::links(bytes, work, out) {
+        Wrote::Refused(x) => refusal(x),
+        Wrote::Bytes(n) => Answer {
+            number: 0,
+            first: n,
+            second: 0,
             third: 0,
         },
     }

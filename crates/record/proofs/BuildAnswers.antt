@@ -31,7 +31,7 @@ use Rattle.field.specs.declared.Found.the-variants.{At, Nothing}
 use Rattle.pairs.specs.Listing.{pairsOn}
 use Rattle.record.specs.Building.{Buildable, Blank, Drawn, Measures, Made}
 
-drop-zeros : (k o : ℕ) → drop {A = ℕ} k (replicate o 0) ≡ replicate (o - k) 0
+pub drop-zeros : (k o : ℕ) → drop {A = ℕ} k (replicate o 0) ≡ replicate (o - k) 0
 drop-zeros zero o =
     let e : o ≡ o - 0 = omega arith in
     ap (λ (n : ℕ). replicate n 0) e

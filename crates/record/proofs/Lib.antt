@@ -11,5 +11,5 @@ pub mod Takes
 pub mod Delivers
 pub mod PutLaws
 mod BuildCases
-mod BuildAnswers
+pub mod BuildAnswers
 mod Drawing

@@ -54,7 +54,7 @@ same-far : {a a′ b b′ : ℕ} {A A′ B B′ : Box} → a ≡ a′ → b ≡ 
 same-far e f g h s = rw (← e, ← f, ← g, ← h) s
 
 -- what holds of each pair of a list of bytes
-each-listed : (P : ℕ × ℕ → Type 0) (ps : List ℕ) (m : ℕ) → ((i : ℕ) → i < m → P (two-numbers-at ps (4 * i))) → Each P (listAt two-numbers-at 4 ps 0 m)
+pub each-listed : (P : ℕ × ℕ → Type 0) (ps : List ℕ) (m : ℕ) → ((i : ℕ) → i < m → P (two-numbers-at ps (4 * i))) → Each P (listAt two-numbers-at 4 ps 0 m)
 unfolding listAt
 each-listed P ps m f = each-mapped P (λ i. two-numbers-at ps (0 + 4 * i)) (below m) (each-from _ 0 m (λ i h l. rw zero-add (f i (omega arith))))
 

@@ -38,7 +38,7 @@ head-done {a} {b} {n} f s t u =
 abbrev pub entries-from : List ℕ → ℕ → ℕ → List ℕ
 entries-from w i n = joined two-numbers (map (λ j. (cell w FIRST j, cell w SECOND j)) (from i n))
 
-joined-more : {B : Type 0} (f : B → List ℕ) (g : ℕ → B) (i n k : ℕ) → i + n ≡ k
+pub joined-more : {B : Type 0} (f : B → List ℕ) (g : ℕ → B) (i n k : ℕ) → i + n ≡ k
     → joined f (map g (from i (suc n))) ≡ joined f (map g (from i n)) ++ f (g k)
 joined-more f g i zero k e =
     let h : i ≡ k = omega arith in

@@ -141,7 +141,7 @@ fn node_part(bytes: &[u8], p: Parts) -> &[u8]
     part_at(bytes, p.nodes, 4 * (2 * p.n - 1))
 }
 
-fn pair_part(bytes: &[u8], p: Parts) -> &[u8]
+pub fn pair_part(bytes: &[u8], p: Parts) -> &[u8]
     requires { ⌜ PartsOf (now bytes) p ⌝ }
     ensures { λ r. ⌜ now r ≡ pairs-slice (now (bytes .entry)) ⌝ }
 {

@@ -74,7 +74,7 @@ module _ (H : Field) where
   abbrev pub Sized : ℕ → List ℕ → Type 0
   Sized d s = (i : ℕ) → List·Memᴰ i s → length (hole H i) ≡ d
 
-  box-one : (i : ℕ) → boxAt H (i ∷ []) ≡ spot (hole H i)
+  pub box-one : (i : ℕ) → boxAt H (i ∷ []) ≡ spot (hole H i)
   unfolding boxAt boxOf
   box-one i = around-none (spot (hole H i))
 

@@ -245,7 +245,7 @@ fn table(with_instructions: bool) {
 fn rows(sheet: &Sheet, with_instructions: bool) {
     let check = time(sheet, Call::Check);
     for name in CALLS {
-        let Some(call) = sheet.call(name).filter(|call| call.is_exported()) else {
+        let Some(call) = sheet.call(name) else {
             continue;
         };
         let times = match call {
@@ -291,7 +291,7 @@ fn growth(with_instructions: bool) {
         let mut before = None;
         for n in [128, 256, 512, 1_024] {
             let sheet = Sheet::new(Layout::Uniform, n, 3, 1);
-            if let Some(call) = sheet.call(name).filter(|call| call.is_exported()) {
+            if let Some(call) = sheet.call(name) {
                 before = Some(growth_row(&sheet, name, call, before, with_instructions));
             }
         }

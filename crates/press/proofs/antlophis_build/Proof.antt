@@ -1,6 +1,6 @@
 -- The refusal or the bytes written, in numbers. Assumes nothing.
 use borrow.Author.Needs.{needs}
-use Rattle.press.proofs.Told.{refused-built, bytes-built}
+use Rattle.press.proofs.Told.{refused-output, given-output}
 use Rattle.press.proofs.antlophis_build.Statement.{statement}
 use Rattle.press.proofs.antlophis_build.Tie as tie
 
@@ -25,7 +25,7 @@ same-length-2 : tie.Need-same-length-2
 same-length-2 c = search all
 
 returns : tie.Need-returns
-returns c = search refused-built
+returns c = search refused-output
 
 same-length-3 : tie.Need-same-length-3
 same-length-3 c = search all
@@ -34,7 +34,7 @@ same-length-4 : tie.Need-same-length-4
 same-length-4 c = search all
 
 returns-2 : tie.Need-returns-2
-returns-2 c = search bytes-built
+returns-2 c = search given-output
 
 pub antlophis-build-spec : {M : Type 1} → statement M
 antlophis-build-spec = tie.close (tie.spec build-requires enum-known-x refusal-requires enum-known-n same-length same-length-2 returns same-length-3 same-length-4 returns-2)

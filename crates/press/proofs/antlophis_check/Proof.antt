@@ -1,6 +1,6 @@
 -- The refusal or the counts, in numbers. Assumes nothing.
 use borrow.Author.Needs.{needs}
-use Rattle.press.proofs.Told.{refused-told, taken-told}
+use Rattle.press.proofs.Told.{refused-check, given-check}
 use Rattle.press.proofs.antlophis_check.Statement.{statement}
 use Rattle.press.proofs.antlophis_check.Tie as tie
 
@@ -22,13 +22,13 @@ same-length : tie.Need-same-length
 same-length c = search all
 
 returns : tie.Need-returns
-returns c = search refused-told
+returns c = search refused-check
 
 same-length-2 : tie.Need-same-length-2
 same-length-2 c = search all
 
 returns-2 : tie.Need-returns-2
-returns-2 c = search taken-told
+returns-2 c = search given-check
 
 pub antlophis-check-spec : {M : Type 1} → statement M
 antlophis-check-spec = tie.close (tie.spec check-requires enum-known-x refusal-requires enum-known-n same-length returns same-length-2 returns-2)

@@ -1,0 +1,5 @@
+mod Keys
+mod Meaning
+mod Replies
+mod LinkLaws
+mod LinkReplies

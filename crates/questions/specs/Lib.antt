@@ -1,0 +1,3 @@
+pub mod Nearest
+pub mod Asking
+pub mod Linking
