@@ -5,6 +5,8 @@ use host::baseline::program;
 use host::calls::{baseline, library, Call, Reply};
 use host::sha256::sha256;
 use host::{Answer, Noise, Part};
+use std::io::Write;
+use std::process::{Command, Stdio};
 
 const SMALL: &str = include_str!("../vectors/base-small.txt");
 const MEDIUM: &str = include_str!("../vectors/base-medium.txt");
@@ -162,8 +164,23 @@ fn all_cases_through_the_baseline() {
     cases.iter().for_each(Case::run_baseline);
 }
 
-#[test]
-fn all_cases_of_the_program_through_the_baseline() {
+/// What the program verdict prints for an input.
+fn verdict(input: &[u8]) -> Vec<u8> {
+    let path = concat!(env!("CARGO_MANIFEST_DIR"), "/../target/bin/verdict");
+    let mut child = Command::new(path)
+        .stdin(Stdio::piped())
+        .stdout(Stdio::piped())
+        .spawn()
+        .expect("the program, which rt check verdict links");
+    // An input that is too long is not read to its end.
+    let _ = child.stdin.take().unwrap().write_all(input);
+    let done = child.wait_with_output().unwrap();
+    assert!(done.status.success());
+    done.stdout
+}
+
+/// Runs all cases of the program.
+fn run_program(program: fn(&[u8]) -> Vec<u8>) {
     let lines = program_lines();
     assert_eq!(lines.len(), 39, "cases of the program");
     for line in lines {
@@ -177,11 +194,18 @@ fn all_cases_of_the_program_through_the_baseline() {
             "{line:.200}"
         );
     }
+    // One byte over 65,536 is refusal 17, whatever the bytes are; 65,536 bytes are read as a record.
+    assert_eq!(program(&vec![3; 65_537]), b"refused 17 65536\n");
+    assert_eq!(program(&vec![3; 200_000]), b"refused 17 65536\n");
+    assert_eq!(program(&vec![3; 65_536]), b"refused 9 771\n");
 }
 
-/// One byte over 65,536 is refusal 17, whatever the bytes are; 65,536 bytes are read as a record.
 #[test]
-fn a_long_input_of_the_program() {
-    assert_eq!(program(&vec![3; 65_537]), b"refused 17 65536\n");
-    assert_eq!(program(&vec![3; 65_536]), b"refused 9 771\n");
+fn all_cases_of_the_program() {
+    run_program(verdict);
+}
+
+#[test]
+fn all_cases_of_the_program_through_the_baseline() {
+    run_program(program);
 }

@@ -4,9 +4,9 @@ use mathlib.Core.Bool.{true, false}
 use mathlib.Core.List.{List}
 use Prim.Native.Nat.{ℕ}
 use lib.ListN.{length}
-use Rattle.paper.specs.Refusals.{Answer, number, value, build, check}
-use Rattle.paper.specs.Questions.{closest, pitch, links}
-use Rattle.paper.specs.Answers.{refuses, wrote, Answered, Finished, Builds, Checks, FindsClosest, TestsPitch, WritesLinks}
+use Rattle.paper.specs.Refusals.{Answer, number, value, check}
+use Rattle.paper.specs.Questions.{closest, pitch}
+use Rattle.paper.specs.Answers.{refuses, wrote, Answered, Finished, Checks, FindsClosest, TestsPitch}
 use Rattle.paper.specs.declared.Refusal.{Refusal}
 use Rattle.paper.specs.declared.Wrote.{Wrote}
 use Rattle.paper.specs.declared.Wrote.the-variants as W

@@ -21,6 +21,7 @@ use Rattle.paper.specs.declared.Refusal.{Refusal}
 use Rattle.paper.specs.declared.Refusal.the-variants as R
 use Rattle.paper.specs.declared.Wrote.{Wrote}
 use Rattle.paper.specs.declared.Wrote.the-variants as W
+use Rattle.paper.proofs.Tables.{stop, pass, passed}
 use Rattle.theory.specs.Trees.{Each}
 use Rattle.theory.proofs.RoundTrip.{view-pairs}
 use Rattle.record.specs.Cutting.{pairs-slice}
@@ -36,7 +37,7 @@ use Rattle.questions.specs.Asking.{Known}
 use Rattle.questions.specs.Linking.{linkOn, linksOn, LinksFit, LinksMade}
 use Rattle.questions.proofs.Meaning.{left-node, right-node, pairs-there}
 use Rattle.questions.proofs.LinkLaws.{length-links}
-use Rattle.questions.proofs.Replies.{stop, pass, done, a-is, b-is}
+use Rattle.questions.proofs.Replies.{a-is, b-is}
 
 joined-same : {A : Type 0} (f g : A → List ℕ) (xs : List A) → Each (λ x. f x ≡ g x) xs → joined f xs ≡ joined g xs
 joined-same f g [] e = refl
@@ -73,7 +74,7 @@ module _ {bytes w : List ℕ} {p : Parts} (k : Known bytes w p) where
   module _ {out : List ℕ} (blank : Blank out) where
     pub links-low : p .a ≤ 4 * p .b → LinksMade bytes (length w) out out (W.Refused (R.Low (256 * p .a + p .b)))
     unfolding links
-    links-low l = none-made _ blank (rw (k .taken, a-is k, b-is k) (stop (R.Low (256 * p .a + p .b)) _ _ (le-leb _ _ l)))
+    links-low l = none-made _ blank (rw (k .taken, a-is k, b-is k) (stop _ (le-leb _ _ l) (R.Low (256 * p .a + p .b)) _))
 
     module _ (high : 4 * p .b < p .a) where
       ratio-high : leb (viewOf bytes .a) (4 * viewOf bytes .b) ≡ false
@@ -84,14 +85,14 @@ module _ {bytes w : List ℕ} {p : Parts} (k : Known bytes w p) where
       links-short l =
           none-made _ blank
           (rw (k .taken, m-is)
-          (pass (R.Low (256 * viewOf bytes .a + viewOf bytes .b)) _ _ ratio-high ∙ stop (R.Room (4 * p .m)) _ _ (lt-ltb _ _ l)))
+          (pass _ ratio-high (R.Low (256 * viewOf bytes .a + viewOf bytes .b)) _ ∙ stop _ (lt-ltb _ _ l) (R.Room (4 * p .m)) _))
 
       asked-links : 4 * p .m ≤ length out
           → links bytes (length w) (length out) ≡ given (joined (λ q. two-numbers (link (viewOf bytes) q)) (viewOf bytes .pairs))
       unfolding links
       asked-links l =
           rw (k .taken, m-is)
-          (pass (R.Low (256 * viewOf bytes .a + viewOf bytes .b)) _ _ ratio-high ∙ pass (R.Room (4 * p .m)) _ _ (le-ltb _ _ l) ∙ done _)
+          (pass _ ratio-high (R.Low (256 * viewOf bytes .a + viewOf bytes .b)) _ ∙ pass _ (le-ltb _ _ l) (R.Room (4 * p .m)) _ ∙ passed _)
 
       pub links-made : {ps out′ : List ℕ} → 4 * p .m ≤ length out → ps ≡ pairs-slice bytes → Written out out′ 0 (linksOn w ps (p .m))
           → LinksMade bytes (length w) out out′ (W.Bytes (4 * p .m))

@@ -21,6 +21,7 @@ use Rattle.paper.specs.declared.Closest.the-variants as L
 use Rattle.paper.specs.declared.Pitch.{Pitch}
 use Rattle.paper.specs.declared.Pitch.the-variants as P
 use Rattle.paper.proofs.ListLaws.{cases, not-so}
+use Rattle.paper.proofs.Tables.{stop, pass, passed}
 use Rattle.theory.proofs.ClosestPair.{pitch-nearest}
 use Rattle.theory.proofs.RoundTrip.{view-holes}
 use Rattle.record.specs.Inspecting.{InspectSays}
@@ -30,20 +31,6 @@ use Rattle.record.specs.declared.Inspected.the-variants.{Fine, Refused}
 use Rattle.questions.specs.declared.Looked.{Looked}
 use Rattle.questions.specs.Nearest.{Wanted, NearestKey}
 use Rattle.questions.specs.Asking.{Known, LooksOn, Looks}
-
--- a line that holds is refused, and one that does not is passed
-module _ {A : Type 0} {t : Bool} (x : Refusal) (ls : List Line) (y : Answer A) where
-  pub stop : t ≡ true → (in-order (when t refuse x) ∷ ls else y) ≡ refuses x
-  unfolding in-order_else_ when_refuse_
-  stop e = rw (e, in-order_else_) refl
-
-  pub pass : t ≡ false → (in-order (when t refuse x) ∷ ls else y) ≡ (in-order ls else y)
-  unfolding in-order_else_ when_refuse_
-  pass e = rw (e, in-order_else_) refl
-
-pub done : {A : Type 0} (y : Answer A) → (in-order [] else y) ≡ y
-unfolding in-order_else_
-done y = refl
 
 -- what an inspection found
 pub known : (bytes old new : List ℕ) {f : Inspected} {p : Parts} → InspectSays bytes old new f → f ≡ Fine p → Known bytes new p
@@ -66,16 +53,16 @@ module _ {bytes w : List ℕ} {p : Parts} (k : Known bytes w p) where
   -- the closest pair
   pub is-single : p .n ≡ 1 → found (L.Refused R.Single) ≡ closest bytes (length w)
   unfolding closest
-  is-single e = sym (rw (k .taken) (stop R.Single _ _ (eq-eqb _ _ (n-is ∙ e))))
+  is-single e = sym (rw (k .taken) (stop _ (eq-eqb _ _ (n-is ∙ e)) R.Single _))
 
   pub is-low : (p .n ≡ 1 → ⊥) → p .a ≤ 2 * p .b → found (L.Refused (R.Low (256 * p .a + p .b))) ≡ closest bytes (length w)
   unfolding closest
   is-low n l =
       sym (rw (k .taken, a-is, b-is)
-      (pass R.Single _ _ (ne-eqb _ _ (λ e. n (sym n-is ∙ e))) ∙ stop (R.Low (256 * p .a + p .b)) _ _ (le-leb _ _ l)))
+      (pass _ (ne-eqb _ _ (λ e. n (sym n-is ∙ e))) R.Single _ ∙ stop _ (le-leb _ _ l) (R.Low (256 * p .a + p .b)) _))
 
   pub wanted : (p .n ≡ 1 → ⊥) → 2 * p .b < p .a → Wanted p
-  wanted n l = record { more = n; high = l }
+  wanted n l = record { more = n; high = omega arith }
 
   module _ {x : ℕ} (n : p .n ≡ 1 → ⊥) (l : 2 * p .b < p .a) (s : NearestKey bytes x) where
     ratio-high : leb (viewOf bytes .a) (2 * viewOf bytes .b) ≡ false
@@ -90,7 +77,7 @@ module _ {bytes w : List ℕ} {p : Parts} (k : Known bytes w p) where
         let i : x / 1_024 % 1_024 ≡ nearest (viewOf bytes .holes) .0 = omega (arith, s .is, s .first, s .second) in
         let j : x % 1_024 ≡ nearest (viewOf bytes .holes) .1 = omega (arith, s .is, s .first, s .second) in
         sym (rw (k .taken, i, j, far-is)
-        (pass R.Single _ _ (ne-eqb _ _ (λ e. n (sym n-is ∙ e))) ∙ pass (R.Low (256 * viewOf bytes .a + viewOf bytes .b)) _ _ ratio-high ∙ done _))
+        (pass _ (ne-eqb _ _ (λ e. n (sym n-is ∙ e))) R.Single _ ∙ pass _ ratio-high (R.Low (256 * viewOf bytes .a + viewOf bytes .b)) _ ∙ passed _))
 
     -- the pitch
     pub far-small : x / 1_048_576 < 1_099_511_627_776
@@ -107,7 +94,7 @@ module _ {bytes w : List ℕ} {p : Parts} (k : Known bytes w p) where
     unfolding pitch
     asked-pitch q =
         rw (k .taken, ne-eqb _ _ (λ e. n (sym n-is ∙ e)), pitch)
-        (pass (R.Low (256 * viewOf bytes .a + viewOf bytes .b)) _ _ ratio-high ∙ done _)
+        (pass _ ratio-high (R.Low (256 * viewOf bytes .a + viewOf bytes .b)) _ ∙ passed _)
 
     pub pitch-yes : (q : ℕ) {t : Bool} → t ≡ leb (square q) (x / 1_048_576) → t ≡ true → pitched P.Yes ≡ pitch bytes q (length w)
     pitch-yes q e f = sym (rw (asked-pitch q, keeps-far q e, f) refl)
@@ -122,7 +109,7 @@ module _ {bytes w : List ℕ} {p : Parts} (k : Known bytes w p) where
   pub pitch-low : (q : ℕ) → (p .n ≡ 1 → ⊥) → p .a ≤ 2 * p .b → pitched (P.Refused (R.Low (256 * p .a + p .b))) ≡ pitch bytes q (length w)
   unfolding pitch
   pitch-low q n l =
-      sym (rw (k .taken, ne-eqb _ _ (λ e. n (sym n-is ∙ e)), a-is, b-is, pitch) (stop (R.Low (256 * p .a + p .b)) _ _ (le-leb _ _ l)))
+      sym (rw (k .taken, ne-eqb _ _ (λ e. n (sym n-is ∙ e)), a-is, b-is, pitch) (stop _ (le-leb _ _ l) (R.Low (256 * p .a + p .b)) _))
 
 -- a record that is refused is refused to every question
 module _ (bytes old new : List ℕ) {f : Inspected} (s : InspectSays bytes old new f) {x : Refusal} (q : f ≡ Refused x) where

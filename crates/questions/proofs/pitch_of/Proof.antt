@@ -25,7 +25,7 @@ nearest-key-requires : tie.Need-nearest-key-requires
 nearest-key-requires c κs = (search needs, search wanted)
 
 keeps-pitch-requires : tie.Need-keeps-pitch-requires
-keeps-pitch-requires c κs = search (far-small, wanted, needs)
+keeps-pitch-requires c κs = search (far-small, needs)
 
 returns-3 : tie.Need-returns-3
 returns-3 c = search pitch-yes

@@ -1,0 +1,4 @@
+mod Digits
+mod Putting
+mod Reporting
+pub mod Once
