@@ -108,13 +108,13 @@ pub fn set_point(work: &mut [u8], holes: &[u8], d: usize, k: usize, h: usize)
 }
 
 // The lesser and the greater of two numbers.
-fn lesser(x: usize, y: usize) -> usize
+pub fn lesser(x: usize, y: usize) -> usize
     ensures { λ r. ⌜ r ≡ min x y ⌝ }
 {
     if x < y { x } else { y }
 }
 
-fn greater(x: usize, y: usize) -> usize
+pub fn greater(x: usize, y: usize) -> usize
     ensures { λ r. ⌜ r ≡ max x y ⌝ }
 {
     if x < y { y } else { x }

@@ -1,27 +1,17 @@
-// Pairs: listing those of a tree, the test that each is separated, and the test that every two holes are covered by exactly one.
-// The covering costs at most m + n steps for a hole, whatever the record says.
+// Pairs: listing those of a tree, and the test that each pair of a record is separated.
 ghost use mathlib.Core.Path.{_≡_};
 ghost use mathlib.Core.Bool.{false};
 ghost use mathlib.Core.List.{[], _∷_};
-ghost use Prim.Native.Nat.{_+_, _*_, _<_, _≤_, min};
+ghost use Prim.Native.Nat.{_+_, _*_, _≤_};
 ghost use Rattle.paper.specs.Field.{Ratio};
 ghost use Rattle.paper.specs.Record.{two-numbers-at};
 ghost use Rattle.field.specs.Found.{Finds};
 ghost use Rattle.paper.specs.Separation.{separated};
 ghost use Rattle.field.specs.Boxes.{Axes, boxOn};
 ghost use Rattle.pairs.specs.Checking.{PairsIn, PairIn, PairOn, Judged};
-ghost use Rattle.pairs.specs.Spans.{spans, Ready, Covering};
-ghost use Rattle.pairs.specs.Rows.{pairAt, spanning, meeting, Open, SpanOn, PairSpans, Counting, OneMore, Ranks, Emptied};
-ghost use Rattle.pairs.specs.Rows.{Uncounted, Tallying, Tallied, Spreading, Opening, Counted, Spread, Row};
 ghost use Rattle.pairs.specs.Listing.{Listable, Listed, pairsOn};
 ghost use Rattle.pairs.specs.Comparing.{Laid, Comparing, comparedOn, NodeListing, nodePairs};
 use field::Found;
-
-// What a search for two holes finds.
-pub enum Two {
-    Both(usize, usize),
-    Neither,
-}
 
 // The least of m pairs that does not name two separated nodes of a tree of n holes.
 pub fn check_pairs(
@@ -63,137 +53,6 @@ fn check_pair(work: &[u8], pairs: &[u8], d: usize, a: usize, b: usize, n: usize,
         return false;
     }
     field::is_separated(work, d, a, b, p, q)
-}
-
-// Whether rank r is in the span of node k.
-fn in_span(work: &[u8], k: usize, r: usize) -> bool
-    requires { ⌜ SpanOn (now work) k ⌝ }
-    ensures { λ t. ⌜ t ≡ spans (now (work .entry)) k r ⌝ }
-{
-    let from = slate::cell(work, slate::FROM, k);
-    if r < from {
-        return false;
-    }
-    r < from + slate::cell(work, slate::HOLES, k)
-}
-
-// Sets the counts of all n ranks to 0.
-fn empty_counts(work: &mut [u8], n: usize)
-    requires { ⌜ Ranks (now work) n ⌝ }
-    ensures { λ _. ⌜ Emptied n (now (work .entry)) (now (work .exit)) ⌝ }
-{
-    slate::clear(work, slate::MARKS, 2 * n);
-    slate::clear(work, slate::TALLY, 2 * n);
-}
-
-// Counts one more in wide cell k of column c, where k is below n.
-fn count_one(work: &mut [u8], c: usize, n: usize, k: usize)
-    requires { ⌜ Counting (now work) c n ⌝ }
-    ensures { λ _. ⌜ OneMore c n k (now (work .entry)) (now (work .exit)) ⌝ }
-{
-    if n <= k {
-        return;
-    }
-    let v = slate::wide_cell(work, c, k);
-    slate::set_wide_cell(work, c, k, v + 1);
-}
-
-// Counts the span of node k once more: in MARKS where it starts, and in TALLY where it ends.
-fn tally_span(work: &mut [u8], n: usize, k: usize)
-    requires { ⌜ Tallying (now work) n ⌝ }
-    requires { ⌜ SpanOn (now work) k ⌝ }
-    ensures { λ _. ⌜ Tallied n 1 (spanning (now (work .entry)) k) (now (work .entry)) (now (work .exit)) ⌝ }
-{
-    let from = slate::cell(work, slate::FROM, k);
-    let end = from + slate::cell(work, slate::HOLES, k);
-    count_one(work, slate::MARKS, n, from);
-    count_one(work, slate::TALLY, n, end);
-}
-
-// Counts what pair k covers with rank x: where x is in one node's span, the span of the other node.
-fn tally_pair(work: &mut [u8], pairs: &[u8], n: usize, k: usize, x: usize)
-    requires { ⌜ PairSpans (now work) (now pairs) k ⌝ }
-    requires { ⌜ Tallying (now work) n ⌝ }
-    ensures { λ _. ⌜ Tallied n 1 (meeting (now (work .entry)) x (pairAt (now (pairs .entry)) k)) (now (work .entry)) (now (work .exit)) ⌝ }
-{
-    let p = words::get16(pairs, 4 * k);
-    let q = words::get16(pairs, 4 * k + 2);
-    if in_span(work, p, x) {
-        tally_span(work, n, q);
-        return;
-    }
-    if in_span(work, q, x) {
-        tally_span(work, n, p);
-    }
-}
-
-// Counts what every pair covers with rank x.
-fn tally_pairs(work: &mut [u8], pairs: &[u8], n: usize, m: usize, x: usize)
-    requires { ⌜ Ready (now work) (now pairs) n m ⌝ }
-    requires { ⌜ Uncounted (now work) n ⌝ }
-    ensures { λ _. ⌜ Counted (now (pairs .entry)) n m x (now (work .entry)) (now (work .exit)) ⌝ }
-{
-    for k in 0..m {
-        tally_pair(work, pairs, n, k, x);
-    }
-}
-
-// How many spans are open at rank r, where `running` are at the rank before it.
-fn open_at(work: &[u8], r: usize, running: usize) -> usize
-    requires { ⌜ Opening (now work) r running ⌝ }
-    ensures { λ x. ⌜ Open (now (work .entry)) (r + 1) x ⌝ }
-{
-    running + slate::wide_cell(work, slate::MARKS, r) - slate::wide_cell(work, slate::TALLY, r)
-}
-
-// A count, two standing for more.
-fn capped(x: usize) -> usize
-    ensures { λ r. ⌜ r ≡ min 2 x ⌝ }
-{
-    if x < 2 { x } else { 2 }
-}
-
-// Sets SCRATCH at each rank to the number of spans that are open there, two standing for more.
-fn spread(work: &mut [u8], n: usize)
-    requires { ⌜ Spreading (now work) n ⌝ }
-    ensures { λ _. ⌜ Spread n (now (work .entry)) (now (work .exit)) ⌝ }
-{
-    let mut running = 0;
-    for r in 0..n {
-        running = open_at(work, r, running);
-        slate::set_cell(work, slate::SCRATCH, r, capped(running));
-    }
-}
-
-// Sets SCRATCH at the rank of each hole to the number of pairs that cover it and hole i, two standing for more.
-fn row(work: &mut [u8], pairs: &[u8], n: usize, m: usize, i: usize)
-    requires { ⌜ Ready (now work) (now pairs) n m ⌝ }
-    requires { ⌜ i < n ⌝ }
-    ensures { λ _. ⌜ Row (now (pairs .entry)) n m i (now (work .entry)) (now (work .exit)) ⌝ }
-{
-    empty_counts(work, n);
-    let x = slate::cell(work, slate::RANK, i);
-    tally_pairs(work, pairs, n, m, x);
-    spread(work, n);
-}
-
-// The least two of n holes, by the first and then by the second, that are not covered exactly once.
-pub fn uncovered(work: &mut [u8], pairs: &[u8], n: usize, m: usize) -> Two
-    requires { ⌜ Ready (now work) (now pairs) n m ⌝ }
-    ensures { λ r. ⌜ Covering (now (pairs .entry)) n m (now (work .entry)) (now (work .exit)) r ⌝ }
-{
-    let mut found = Two::Neither;
-    'search: for i in 0..n {
-        row(work, pairs, n, m, i);
-        for j in i + 1..n {
-            let r = slate::cell(work, slate::RANK, j);
-            if slate::cell(work, slate::SCRATCH, r) != 1 {
-                found = Two::Both(i, j);
-                break 'search;
-            }
-        }
-    }
-    found
 }
 
 // Writes a pair of numbers at a place of the output, where it fits, and gives the place after it.

@@ -13,17 +13,17 @@ use Rattle.field.specs.Found.{Finds}
 use Rattle.field.specs.declared.Found.{Found}
 use Rattle.field.specs.declared.Found.the-variants.{At, Nothing}
 use Rattle.tree.specs.Standing.{Stands}
-use Rattle.tree.specs.Steps.{Counted, Ranked}
+use Rattle.tree.specs.Steps.{Summed, Counted, Ranked}
 use Rattle.pairs.specs.Checking.{PairsIn, PairOn}
-use Rattle.pairs.specs.Spans.{Ready, FindsTwo, Covering, coverings}
-use Rattle.pairs.specs.declared.Two.{Two}
-use Rattle.pairs.specs.declared.Two.the-variants.{Both, Neither}
-use Rattle.record.specs.Cutting.{PartsOf, pairs-slice}
+use Rattle.cover.specs.Spans.{Ready, FindsTwo, Covering, coverings}
+use Rattle.cover.specs.declared.Two.{Two}
+use Rattle.cover.specs.declared.Two.the-variants.{Both, Neither}
+use Rattle.record.specs.Cutting.{PartsOf, holes-slice, pairs-slice}
 use Rattle.record.specs.Inspecting.{Measured, Inspection, Refusing}
 use Rattle.record.specs.declared.Parts.{Parts}
-use Rattle.record.proofs.Slices.{pairs-length, pairs-said, pair-said}
+use Rattle.record.proofs.Slices.{holes-said, pairs-length, pairs-said, pair-said}
 use Rattle.record.proofs.Answers.{framed, content-refused}
-use Rattle.record.proofs.PairsMeant.{Listed, standing, counted, due-pair, ready, due-cover, meant, filled}
+use Rattle.record.proofs.PairsMeant.{Listed, standing, counted, due-pair, ready, due-cover, meant, stands-still, filled}
 
 -- the first n pairs of holes
 few-pairs : (n m : ℕ) → n ≤ 1_024 → m ≤ n * (n - 1) / 2 → m ≤ 523_776
@@ -110,17 +110,23 @@ module _ {r w ps : List ℕ} {p : Parts} (k : PartsOf r p) (m : Measured r w) (e
             refused = refused (due-cover m listed good (k .framing .some) (k .framing .few) ranked (rw (k .n-is, k .m-is) at x));
           }
 
-      -- the record is taken
-      pub is-fine : t ≡ Neither → Inspection r w end p
-      is-fine b =
-          let x : Covering ps (holes-in r) (pairs-in r) last end Neither = rw (b, k .n-is, k .m-is) at g in
-          let f = framed r (length w) (k .framing) (m .grid) in
-          let c = meant m listed good (k .framing .some) (k .framing .few) ranked x in
-          let o = record-is r (length w) .0 (f, c) in
-          record {
-            len = g .len ∙ l .len;
-            parts = k;
-            rules = o .1;
-            taken = taken-is r (length w) (holes-in r) (pairs-in r) .1 (o, refl, refl);
-            filled = filled m listed good (k .framing .some) (k .framing .few) ranked x;
-          }
+      module _ (b : t ≡ Neither) where
+        covered : Covering ps (holes-in r) (pairs-in r) last end Neither
+        covered = rw (b, k .n-is, k .m-is) at g
+
+        pub stands-again : Stands end (p .n)
+        stands-again = rw (k .n-is) (stands-still m listed good (k .framing .some) (k .framing .few) ranked covered)
+
+        -- the record is taken
+        pub is-fine : {full hs : List ℕ} → hs ≡ holes-slice r → Summed hs 2 (p .n) end full → Inspection r w full p
+        is-fine h u =
+            let f = framed r (length w) (k .framing) (m .grid) in
+            let c = meant m listed good (k .framing .some) (k .framing .few) ranked covered in
+            let o = record-is r (length w) .0 (f, c) in
+            record {
+              len = u .len ∙ g .len ∙ l .len;
+              parts = k;
+              rules = o .1;
+              taken = taken-is r (length w) (holes-in r) (pairs-in r) .1 (o, refl, refl);
+              filled = filled m listed good (k .framing .some) (k .framing .few) ranked covered (rw (h, k .n-is) at u) (holes-said r);
+            }

@@ -12,15 +12,16 @@ use lib.Dec.{leb, ltb}
 use lib.ListN.{length, getD}
 use borrow.Author.Tests.{leb-true, le-leb, ltb-true, ltb-false, lt-ltb, eqb-true, eq-eqb}
 use Rattle.words.proofs.AreaLaws.{run-same}
-use Rattle.slate.specs.Columns.{HOLES, LOWEST, FROM, ORDER, RANK, MARKS}
+use Rattle.slate.specs.Columns.{HOLES, FROM, ORDER, RANK, MARKS}
 use Rattle.slate.specs.Slate.{cell}
 use Rattle.paper.specs.Lists.{below, count, has}
-use Rattle.paper.specs.Field.{hole, listAt}
-use Rattle.paper.specs.Tree.{Box}
+use Rattle.paper.specs.Field.{hole, holesAt, listAt}
+use Rattle.paper.specs.Tree.{Box, boxAt}
 use Rattle.paper.specs.Separation.{Separated}
 use Rattle.paper.specs.Record.{holes-in, pairs-in, nodes-of, two-numbers-at, viewOf}
 use Rattle.paper.specs.Rules.{hole-count, node-count, pair-count, pair, Repeats, Names, NodeRule, PairRule, under-node, Under, covers, covered-once, OnePair}
 use Rattle.paper.specs.Refusals.{Least, LeastTwo}
+use Rattle.paper.specs.Questions.{lowest}
 use Rattle.paper.proofs.ListLaws.{both, cases, not-so, and-is, has-is}
 use Rattle.theory.specs.Trees.{Each}
 use Rattle.theory.specs.Conditions.{First, here, later}
@@ -35,14 +36,14 @@ use Rattle.theory.proofs.Checker.{stable, turned, Meant}
 use Rattle.theory.proofs.RoundTrip.{view-holes, view-pairs, view-flat}
 use Rattle.theory.proofs.Grown.{under-below}
 use Rattle.theory.proofs.Separation.{sets-disjoint}
-use Rattle.field.proofs.Boxes.{box-high}
 use Rattle.tree.specs.Standing.{treeOn, Stands}
-use Rattle.tree.specs.Steps.{Counted, Ranked}
+use Rattle.tree.specs.Steps.{Summed, Counted, Ranked}
 use Rattle.tree.proofs.Ranked.{ranked-tree, ranked-holes, rank-under, under-rank}
+use Rattle.tree.proofs.Summed.{summed-tree}
 use Rattle.tree.proofs.Views.{same-tree}
 use Rattle.pairs.specs.Checking.{PairOn}
-use Rattle.pairs.specs.Spans.{spans, inSpan, coversOn, coverings, Ready, Covering}
-use Rattle.pairs.specs.declared.Two.the-variants.{Neither}
+use Rattle.cover.specs.Spans.{spans, inSpan, coversOn, coverings, Ready, Covering}
+use Rattle.cover.specs.declared.Two.the-variants.{Neither}
 use Rattle.record.specs.Inspecting.{Measured, Filled}
 use Rattle.record.proofs.NodesMeant.{least-same, nodes-count}
 
@@ -211,6 +212,7 @@ module _ {r w : List ℕ} (m : Measured r w) where
               given = record { grid = omega (arith, m .grid, k .len); some = some; few = few; all = omega arith; most = most };
               within = λ x b. omega (arith, k .fits x b, ranked-holes stood k x b);
               ranks = k .rank;
+              places = λ i j b c f. sym (k .place i b) ∙ rw f (k .place j c);
               left = λ i l. omega (arith, each-pair i l, nodes-count r);
               right = λ i l. omega (arith, each-pair i l, nodes-count r);
               apart = apart pos;
@@ -233,7 +235,7 @@ module _ {r w : List ℕ} (m : Measured r w) where
                     (λ e. turned (viewOf r) q p (once q p (omega (arith, ltb-false p q e)) (omega (arith, view-holes r))));
               }
 
-          -- what covering leaves of the slate is all that is below MARKS and from LOW on
+          -- what covering leaves of the slate is all that is below MARKS
           same-cell : (c j : ℕ) → c < MARKS → j < 2_048 → cell end c j ≡ cell last c j
           same-cell c j l b = g .rest (2_048 * c + j) (omega arith)
 
@@ -242,26 +244,38 @@ module _ {r w : List ℕ} (m : Measured r w) where
               same-tree end last (holes-in r) (λ j b. same-cell 0 j (omega arith) (omega arith)) (λ j b. same-cell 1 j (omega arith) (omega arith))
               ∙ ranked-tree stood k
 
-          pub filled : Filled r end
-          filled =
-              let few-nodes : (j : ℕ) → j < node-count (viewOf r) → j < 2_048 = λ j b. omega (arith, nodes-count r) in
-              let at : (j : ℕ) → j < node-count (viewOf r) → j < nodes-of (holes-in r) = λ j b. omega (arith, nodes-count r) in
-              let under : (j : ℕ) → j < node-count (viewOf r) → under-node (treeOn w (holes-in r)) j ≡ under-node (viewOf r) j
-              = λ j b. sym (alike-under (m .tree) (m .rules) j b) in
-              let root : under-node (treeOn w (holes-in r)) 0 ≡ under-node (viewOf r) 0 = under 0 (omega (arith, nodes-count r)) in
-              let hs : (j : ℕ) → j < node-count (viewOf r) → cell end HOLES j ≡ cell w HOLES j
-              = λ j b. same-cell HOLES j (omega arith) (few-nodes j b) ∙ ranked-holes stood k j (at j b) in
-              let fs : (j : ℕ) → j < node-count (viewOf r) → cell end FROM j ≡ cell last FROM j
-              = λ j b. same-cell FROM j (omega arith) (few-nodes j b) in
-              record {
-                grid = omega (arith, m .grid, k .len, g .len);
-                tree = rw same-nodes (m .tree);
-                holes = λ j b. hs j b ∙ m .holes j b;
-                lowest = λ j b. same-cell LOWEST j (omega arith) (few-nodes j b) ∙ k .rest (2_048 * LOWEST + j) (λ x y. omega (arith, few-nodes j b)) ∙ m .lowest j b;
-                box = λ j b. box-high end w 2 j (λ i l. g .rest i (omega arith) ∙ k .rest i (omega arith)) ∙ m .box j b;
-                order = run-same end last (2_048 * ORDER) (holes-in r) (λ i l h. g .rest i (omega arith)) ∙ k .order ∙ root;
-                fits = λ j b. rw (fs j b, hs j b) (k .fits j (at j b));
-                stretch = λ j b. rw (fs j b, hs j b, ← under j b, ← root) (k .stretch j (at j b));
-                rank = λ h l. rw (same-cell RANK h (omega arith) (omega arith)) (k .rank h l);
-                place = λ h l. rw (same-cell RANK h (omega arith) (omega arith), ← root) (k .place h l);
-              }
+          pub stands-still : Stands end (holes-in r)
+          stands-still = record { grid = omega (arith, m .grid, k .len, g .len); some = some; few = few; rules = rw same-nodes (stood .rules) }
+
+          -- and summing up once more leaves the ranks
+          module _ {full hs : List ℕ} (u : Summed hs 2 (holes-in r) end full) (said : viewOf r .holes ≡ holesAt 2 hs 0 (holes-in r)) where
+            under : (j : ℕ) → j < node-count (viewOf r) → under-node (treeOn w (holes-in r)) j ≡ under-node (viewOf r) j
+            under j b = sym (alike-under (m .tree) (m .rules) j b)
+
+            under-still : (j : ℕ) → j < node-count (viewOf r) → under-node (treeOn end (holes-in r)) j ≡ under-node (viewOf r) j
+            under-still j b = rw same-nodes (under j b)
+
+            left-cell : (c j : ℕ) → FROM ≤ c → c < MARKS → j < 2_048 → cell full c j ≡ cell last c j
+            left-cell c j o l b = u .rest (2_048 * c + j) (omega arith) (omega arith) ∙ same-cell c j l b
+
+            pub filled : Filled r full
+            filled =
+                let at : (j : ℕ) → j < node-count (viewOf r) → j < nodes-of (holes-in r) = λ j b. omega (arith, nodes-count r) in
+                let root = under 0 (omega (arith, nodes-count r)) in
+                let holes : (j : ℕ) → j < node-count (viewOf r) → cell full HOLES j ≡ length (under-node (viewOf r) j)
+                = λ j b. u .holes j (at j b) ∙ ap length (under-still j b) in
+                let hs : (j : ℕ) → j < node-count (viewOf r) → cell full HOLES j ≡ cell w HOLES j = λ j b. holes j b ∙ sym (m .holes j b) in
+                let fs : (j : ℕ) → j < node-count (viewOf r) → cell full FROM j ≡ cell last FROM j
+                = λ j b. left-cell FROM j (omega arith) (omega arith) (omega (arith, nodes-count r)) in
+                record {
+                  grid = omega (arith, m .grid, k .len, g .len, u .len);
+                  tree = rw (summed-tree u few, same-nodes) (m .tree);
+                  holes = holes;
+                  lowest = λ j b. u .lowest j (at j b) ∙ ap lowest (under-still j b);
+                  box = λ j b. u .box j (at j b) ∙ rw (← said) (ap (boxAt (viewOf r .holes)) (under-still j b));
+                  order = run-same full last (2_048 * ORDER) (holes-in r) (λ i l h. u .rest i (omega arith) (omega arith) ∙ g .rest i (omega arith)) ∙ k .order ∙ root;
+                  fits = λ j b. rw (fs j b, hs j b) (k .fits j (at j b));
+                  stretch = λ j b. rw (fs j b, hs j b, ← under j b, ← root) (k .stretch j (at j b));
+                  rank = λ h l. rw (left-cell RANK h (omega arith) (omega arith) (omega arith)) (k .rank h l);
+                  place = λ h l. rw (left-cell RANK h (omega arith) (omega arith) (omega arith), ← root) (k .place h l);
+                }

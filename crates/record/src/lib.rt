@@ -16,8 +16,8 @@ ghost use Rattle.tree.specs.Standing.{treeOn};
 ghost use Rattle.record.specs.Building.{HeadFits, NodesFit, head, node-bytes, Buildable, Drawn, Blank, Made, Measures, RecordFits};
 ghost use Rattle.pairs.specs.Listing.{Listable};
 ghost use Rattle.paper.specs.Field.{holesAt};
+use cover::Two;
 use field::Found;
-use pairs::Two;
 use paper::Checked;
 use paper::Refusal;
 use paper::Wrote;
@@ -184,7 +184,7 @@ fn inspect_nodes(bytes: &[u8], work: &mut [u8], p: Parts) -> Inspected
     inspect_pairs(bytes, work, p)
 }
 
-// From the pairs on: refusals 13 and 14.
+// From the pairs on: refusals 13 and 14. The covering takes the columns of the boxes for its own, so that a taken record is summed up once more.
 fn inspect_pairs(bytes: &[u8], work: &mut [u8], p: Parts) -> Inspected
     requires { ⌜ PartsOf (now bytes) p ⌝ }
     requires { ⌜ Measured (now bytes) (now work) ⌝ }
@@ -197,9 +197,11 @@ fn inspect_pairs(bytes: &[u8], work: &mut [u8], p: Parts) -> Inspected
         return Inspected::Refused(Refusal::Pair(k as u64));
     }
     tree::rank(work, n);
-    if let Two::Both(i, j) = pairs::uncovered(work, list, n, m) {
+    if let Two::Both(i, j) = cover::uncovered(work, list, n, m) {
         return Inspected::Refused(Refusal::Cover((1024 * i + j) as u64));
     }
+    let holes = hole_part(bytes, p);
+    tree::sum_up(work, holes, 2, n);
     Inspected::Fine(p)
 }
 

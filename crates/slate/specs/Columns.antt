@@ -37,3 +37,6 @@ LOW = 10
 
 abbrev pub HIGH : ℕ
 HIGH = 11
+
+abbrev pub SKIP : ℕ
+SKIP = 15

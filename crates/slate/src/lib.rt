@@ -39,6 +39,9 @@ pub const LOW: usize = 10;
 // The high end; axis x has HIGH + 2 * x.
 pub const HIGH: usize = 11;
 
+// Whether a rank is passed over: a step's own too, in the last column of the boxes.
+pub const SKIP: usize = 15;
+
 // What cell k of column c holds.
 pub fn cell(work: &[u8], c: usize, k: usize) -> usize
     requires { ⌜ Within (now work) c k ⌝ }

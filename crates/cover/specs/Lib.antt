@@ -1,0 +1,4 @@
+pub mod Bits
+pub mod Spans
+pub mod Rows
+pub mod Marks
