@@ -10,7 +10,8 @@ ghost use Rattle.paper.specs.Separation.{separated};
 ghost use Rattle.field.specs.Boxes.{Axes, boxOn};
 ghost use Rattle.pairs.specs.Checking.{PairsIn, PairIn, PairOn, Judged};
 ghost use Rattle.pairs.specs.Listing.{Listable, Listed, pairsOn};
-ghost use Rattle.pairs.specs.Comparing.{Laid, Comparing, comparedOn, NodeListing, nodePairs};
+ghost use Rattle.pairs.specs.Comparing.{Laid, BothLeaves, Faces, Comparing, comparedOn, NodeListing, nodePairs};
+ghost use Rattle.slate.specs.Slate.{Grid};
 use field::Found;
 
 // The least of m pairs that does not name two separated nodes of a tree of n holes.
@@ -69,6 +70,29 @@ fn put_pair(out: &mut [u8], at: usize, i: usize, j: usize) -> usize
     next
 }
 
+// Whether nodes i and j are leaves.
+fn both_leaves(work: &[u8], i: usize, j: usize) -> bool
+    requires { ⌜ Grid (now work) ⌝ }
+    requires { ⌜ (i < 2048) × (j < 2048) ⌝ }
+    ensures { λ r. ⌜ BothLeaves (now (work .entry)) i j r ⌝ }
+{
+    if slate::cell(work, slate::FIRST, i) != 65535 {
+        return false;
+    }
+    slate::cell(work, slate::FIRST, j) == 65535
+}
+
+// Whether nodes i and j, which face each other, are separated. Two leaves always are.
+fn apart(work: &[u8], d: usize, a: usize, b: usize, n: usize, i: usize, j: usize) -> bool
+    requires { ⌜ Faces (now work) d a b n i j ⌝ }
+    ensures { λ r. ⌜ r ≡ separated a b (boxOn (now (work .entry)) d i) (boxOn (now (work .entry)) d j) ⌝ }
+{
+    if both_leaves(work, i, j) {
+        return true;
+    }
+    field::is_separated(work, d, a, b, i, j)
+}
+
 // Compares node i with node j, and gives the place after the pairs that come of it.
 fn compare(
     work: &[u8],
@@ -84,7 +108,7 @@ fn compare(
     requires { ⌜ Comparing (now work) d a b n i j at ⌝ }
     ensures { λ r. ⌜ Laid (comparedOn (now (work .entry)) d a b n i j) at (now (out .entry)) (now (out .exit)) r ⌝ }
 {
-    if field::is_separated(work, d, a, b, i, j) {
+    if apart(work, d, a, b, n, i, j) {
         put_pair(out, at, i, j)
     } else {
         split(work, out, d, a, b, n, i, j, at)

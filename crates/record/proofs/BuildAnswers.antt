@@ -2,7 +2,7 @@
 use mathlib.Core.Path.{_≡_, refl, sym, ap, ap₂, _∙_}
 use mathlib.Core.Bool.{Bool, true, false, not}
 use mathlib.Core.List.{List, [], _∷_, _++_}
-use Prim.Native.Nat.{ℕ, zero, suc, _+_, _-_, _/_, _%_, _≤_, _<_}
+use Prim.Native.Nat.{ℕ, zero, suc, _+_, _*_, _-_, _/_, _%_, _≤_, _<_}
 use native.Mathlib.Omega.{arith}
 use lib.ListN.{length, drop, replicate, length-replicate}
 use borrow.Author.Tests.{not-true, not-false}
@@ -28,8 +28,9 @@ use Rattle.theory.proofs.Lengths.{length-whole}
 use Rattle.field.specs.Found.{Finds}
 use Rattle.field.specs.declared.Found.{Found}
 use Rattle.field.specs.declared.Found.the-variants.{At, Nothing}
-use Rattle.pairs.specs.Listing.{pairsOn}
-use Rattle.record.specs.Building.{Buildable, Blank, Drawn, Measures, Made}
+use Rattle.pairs.specs.Listing.{Listed, pairsOn}
+use Rattle.record.specs.Building.{Buildable, Blank, Drawn, front, Made}
+use Rattle.record.proofs.BuildCases.{record-done}
 
 pub drop-zeros : (k o : ℕ) → drop {A = ℕ} k (replicate o 0) ≡ replicate (o - k) 0
 drop-zeros zero o =
@@ -85,31 +86,32 @@ module _ {c : List ℕ} {a b n : ℕ} (f : Buildable c a b n) where
       length-whole (built a b (holesAt 2 c 0 n)) flat some (nodes-tree (holesAt 2 c 0 n) 2 flat (f .distinct) some)
       ∙ ap₂ whole l (ap length (sym (d .pairs)))
 
-  module _ {w out out′ : List ℕ} {r : ℕ} (d : Drawn c a b n w) (blank : Blank out) (m : Measures w a b n out out′ r) where
+  module _ {w out out′ : List ℕ} {r : ℕ} (d : Drawn c a b n w) (blank : Blank out) (l : Listed (pairsOn w 2 a b n) (6 + 12 * n) out out′ r) where
     enough : least-work ≤ length w
     enough = d .listable .stands .grid
 
-    same-length : length out′ ≡ length out
-    same-length = ap length (m .kept)
-
     r-is : r ≡ length (written (built a b (holesAt 2 c 0 (length c / 4))))
-    r-is = rw count-is (m .is ∙ sym (length-is d))
+    r-is = rw count-is (l .next ∙ sym (length-is d))
 
-    pub no-room : length out′ < r → Made c a b (length w) out out′ (W.Refused (R.Room r))
+    pub no-room : {out″ : List ℕ} → length out′ < r → out″ ≡ replicate (length out′) 0 → Made c a b (length w) out out″ (W.Refused (R.Room r))
     unfolding left-in
-    no-room l =
-        let q = passed c a b (length w) (length out) at-count enough (here refl (omega (arith, r-is, same-length), r-is)) in
-        record { answer = rw q refl; output = rw q (m .kept ∙ blank .zeros) }
+    no-room h z =
+        let q = passed c a b (length w) (length out) at-count enough (here refl (omega (arith, r-is, l .len), r-is)) in
+        record { answer = rw q refl; output = rw (q, ← l .len) z }
 
-    pub record-made : {out″ : List ℕ} → r ≤ length out′ → Written out′ out″ 0 (written (built a b (holesAt 2 c 0 n)))
+    -- m pairs are said in front, as the code counts them
+    pub count-said : (r - (6 + 12 * n)) / 4 ≡ length (pairsOn w 2 a b n)
+    count-said = omega (arith, l .next)
+
+    pub record-made : {out″ : List ℕ} → r ≤ length out′ → Written out′ out″ 0 (front c a b n ((r - (6 + 12 * n)) / 4) w)
         → Made c a b (length w) out out″ (W.Bytes r)
     unfolding left-in
-    record-made {out″} l s =
+    record-made {out″} h s =
         let its = written (built a b (holesAt 2 c 0 (length c / 4))) in
-        let q = finished c a b (length w) (length out) at-count enough (omega (arith, r-is, same-length)) in
-        let s′ : Written out′ out″ 0 its = rw count-is s in
-        let t = written-all s′ (omega (arith, r-is)) in
-        let zeros = ap (λ (z : List ℕ). drop (length its) z) (m .kept ∙ blank .zeros) ∙ drop-zeros (length its) (length out) in
+        let q = finished c a b (length w) (length out) at-count enough (omega (arith, r-is, l .len)) in
+        let s′ : Written out out″ 0 its = rw count-is (record-done f d count-said l h s) in
+        let t = written-all s′ (omega (arith, r-is, l .len)) in
+        let zeros = ap (λ (z : List ℕ). drop (length its) z) (blank .zeros) ∙ drop-zeros (length its) (length out) in
         record { answer = rw (q, r-is) refl; output = rw q (t ∙ ap (λ (z : List ℕ). its ++ z) zeros) }
 
 -- each refusal that comes before the record is looked at: what was tested before it is not due

@@ -62,14 +62,11 @@ head c a b n = (a ∷ b ∷ []) ++ bytes 2 n ++ c
 abbrev pub node-bytes : List ℕ → ℕ → List ℕ
 node-bytes w n = bytes 2 (nodes-of n) ++ joined two-numbers (treeOn w n .nodes)
 
--- r is the length of the record; the output is as it was
-pub record Measures (w : List ℕ) (a b n : ℕ) (out out′ : List ℕ) (r : ℕ) : Type 0 where
-  pub is : r ≡ whole n (length (pairsOn w 2 a b n))
-  pub kept : out′ ≡ out
+-- all that stands before the pairs, of which there are m
+abbrev pub front : List ℕ → ℕ → ℕ → ℕ → ℕ → List ℕ → List ℕ
+front c a b n m w = head c a b n ++ node-bytes w n ++ bytes 4 m
 
--- there is room for the record, and m is how many pairs it has
-pub record RecordFits (c : List ℕ) (a b n m : ℕ) (w out : List ℕ) : Type 0 where
+pub record FrontFits (c : List ℕ) (a b n : ℕ) (w out : List ℕ) : Type 0 where
   pub field : Buildable c a b n
-  pub drawn : Drawn c a b n w
-  pub count : m ≡ length (pairsOn w 2 a b n)
-  pub room : whole n m ≤ length out
+  pub grid : Grid w
+  pub room : 6 + 12 * n ≤ length out

@@ -13,7 +13,7 @@ ghost use Rattle.record.specs.Inspecting.{InspectSays, TakeSays, Measure
 ghost use Rattle.words.specs.Words.{Written};
 ghost use Rattle.paper.specs.Lists.{joined};
 ghost use Rattle.tree.specs.Standing.{treeOn};
-ghost use Rattle.record.specs.Building.{HeadFits, NodesFit, head, node-bytes, Buildable, Drawn, Blank, Made, Measures, RecordFits};
+ghost use Rattle.record.specs.Building.{HeadFits, NodesFit, head, node-bytes, front, Buildable, Drawn, Blank, Made, FrontFits};
 ghost use Rattle.pairs.specs.Listing.{Listable};
 ghost use Rattle.paper.specs.Field.{holesAt};
 use cover::Two;
@@ -323,37 +323,30 @@ fn put_nodes(out: &mut [u8], work: &[u8], n: usize)
     put_entries(out, work, n);
 }
 
-// How many bytes the record has: the pairs are listed into an empty output, which counts them.
-fn record_length(work: &[u8], out: &mut [u8], a: usize, b: usize, n: usize) -> usize
-    requires { ⌜ Listable (now work) 2 a b n ⌝ }
-    ensures { λ r. ⌜ Measures (now (work .entry)) a b n (now (out .entry)) (now (out .exit)) r ⌝ }
-{
-    pairs::list_pairs(work, &mut out[0..0], 2, a, b, n, 6 + 12 * n)
-}
-
-// Writes a record of m pairs into an output that has room for it.
-fn put_record(holes: &[u8], a: usize, b: usize, n: usize, m: usize, work: &[u8], out: &mut [u8])
-    requires { ⌜ RecordFits (now holes) a b n m (now work) (now out) ⌝ }
-    ensures { λ _. ⌜ Written (now (out .entry)) (now (out .exit)) 0 (written (built a b (holesAt 2 (now (holes .entry)) 0 n))) ⌝ }
+// Writes all that stands before the pairs: the ratio, the holes, the nodes, and that there are m pairs.
+fn put_front(holes: &[u8], a: usize, b: usize, n: usize, m: usize, work: &[u8], out: &mut [u8])
+    requires { ⌜ FrontFits (now holes) a b n (now work) (now out) ⌝ }
+    ensures { λ _. ⌜ Written (now (out .entry)) (now (out .exit)) 0 (front (now (holes .entry)) a b n m (now (work .entry))) ⌝ }
 {
     put_head(out, holes, a, b, n);
     put_nodes(out, work, n);
     words::put32(out, 2 + 12 * n, m);
-    pairs::list_pairs(work, out, 2, a, b, n, 6 + 12 * n);
 }
 
-// Writes the record of the field whose tree is on the slate, where the output has room for it.
+// Writes the record of the field whose tree is on the slate. The pairs are listed first, as many as fit: how far they go is the record's length,
+// and where the output is shorter it is zeroed again.
 fn write_record(holes: &[u8], a: usize, b: usize, n: usize, work: &[u8], out: &mut [u8]) -> Wrote
     requires { ⌜ Buildable (now holes) a b n ⌝ }
     requires { ⌜ Drawn (now holes) a b n (now work) ⌝ }
     requires { ⌜ Blank (now out) ⌝ }
     ensures { λ r. ⌜ Made (now (holes .entry)) a b (length (now (work .entry))) (now (out .entry)) (now (out .exit)) r ⌝ }
 {
-    let end = record_length(work, out, a, b, n);
+    let end = pairs::list_pairs(work, out, 2, a, b, n, 6 + 12 * n);
     if out.len() < end {
+        words::zero(out);
         return Wrote::Refused(Refusal::Room(end as u64));
     }
-    put_record(holes, a, b, n, (end - (6 + 12 * n)) / 4, work, out);
+    put_front(holes, a, b, n, (end - (6 + 12 * n)) / 4, work, out);
     Wrote::Bytes(end as u64)
 }
 

@@ -154,6 +154,23 @@ written-more {b} {c} {at} {to} {xs} {ys} p q e =
 pub written-wide : {a b c : List ℕ} {at : ℕ} (u w v : ℕ) → Written a b at (bytes u (v / 256 ^ w)) → Written b c (at + u) (bytes w v) → Written a c at (bytes (u + w) v)
 written-wide u w v p q = rw bytes-split (written-more p q (rw length-bytes refl))
 
+-- and where what comes after was written before
+pub written-before : {a b c : List ℕ} {at to : ℕ} {xs ys : List ℕ} → Written a b to ys → Written b c at xs → to ≡ at + length xs → Written a c at (xs ++ ys)
+written-before {a} {b} {c} {at} {to} {xs} {ys} p q e =
+    let n = length-append xs ys in
+    record {
+      len = q .len ∙ p .len;
+      got = λ i h. ⊎-elim
+          (λ l. q .got i l ∙ sym (List·getD-append xs ys 0 i l))
+          (λ g.
+          let f : length xs + (i - length xs) ≡ i = omega arith in
+          let s : to + (i - length xs) ≡ at + i = omega arith in
+          let m : getD (xs ++ ys) i 0 ≡ getD ys (i - length xs) 0 = rw f at (getD-append-add xs ys (i - length xs) 0) in
+          q .rest (at + i) (omega arith) ∙ (rw s at (p .got (i - length xs) (omega (arith, n)))) ∙ sym m)
+          (lt-or-ge i (length xs));
+      rest = λ k h. q .rest k (λ x y. h x (omega (arith, n))) ∙ p .rest k (λ x y. h (omega arith) (omega (arith, n)));
+    }
+
 -- a place within what was written, and any other
 written-at : {old new : List ℕ} {at : ℕ} {bs : List ℕ} → Written old new at bs → (k : ℕ) → at ≤ k → k < at + length bs → getD new k 0 ≡ getD bs (k - at) 0
 written-at {at} p k l m = let e : at + (k - at) ≡ k = omega arith in rw e at (p .got (k - at) (omega arith))

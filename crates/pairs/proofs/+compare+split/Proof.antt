@@ -15,7 +15,7 @@ use Rattle.pairs.proofs.+compare+split.Lts-compare as compare-lts
 use Rattle.pairs.proofs.split.Reads as split
 use Rattle.pairs.proofs.split.Kinds as split-kinds
 use Rattle.pairs.proofs.+compare+split.Lts-split as split-lts
-use Rattle.field.proofs.is_separated.Reads as is-separated
+use Rattle.pairs.proofs.apart.Reads as apart
 use Rattle.field.proofs.longest_side.Reads as longest-side
 use Rattle.pairs.proofs.put_pair.Reads as put-pair
 use Rattle.slate.proofs.cell.Reads as cell
@@ -41,8 +41,8 @@ module _ (t : ℕ) where
 
   abbrev compare-calls : compare-lts.Claims
   compare-calls = (
-    is-separated.Asked,
-    is-separated.Learnt,
+    apart.Asked,
+    apart.Learnt,
     put-pair.Asked,
     put-pair.Learnt,
     and 2 split-kinds.ps (falls 2 split-kinds.ps _<_ μ-split t) split.Pre,
@@ -59,10 +59,8 @@ module _ (t : ℕ) where
     compare.Post,
   )
 
-  compare-is-separated : compare-lts.Need-is-separated-requires compare-calls compare-at compare.Post
-  compare-is-separated c κs =
-      let p = c .before .before .pre .1 .faces in
-      (node-left p, (node-right p .row, p .listable .ratio))
+  compare-apart : compare-lts.Need-apart-requires compare-calls compare-at compare.Post
+  compare-apart c κs = c .before .before .pre .1 .faces
 
   compare-put-pair : compare-lts.Need-put-pair-requires compare-calls compare-at compare.Post
   compare-put-pair c κs = one-fits (c .before .before .before .before .before .pre .1) (cc)
@@ -183,7 +181,7 @@ module _ (t : ℕ) where
 pub +compare+split-spec : {M : Type 1} → statement M
 +compare+split-spec =
     close μ-compare μ-split
-    (λ t. compare-lts.spec (compare-calls t) (compare-at t) compare.Post (compare-is-separated t) (compare-put-pair t) (compare-split t)
+    (λ t. compare-lts.spec (compare-calls t) (compare-at t) compare.Post (compare-apart t) (compare-put-pair t) (compare-split t)
     (compare-same t) (compare-returns t) (compare-same-2 t) (compare-returns-2 t))
     (λ t. split-lts.spec (split-calls t) (split-at t) split.Post (split-side t) (split-side-2 t)
     (split-cell t) (split-cell-2 t) (split-compare t) (split-compare-2 t) (split-cell-3 t) (split-cell-4 t) (split-compare-3 t) (split-compare-4 t)

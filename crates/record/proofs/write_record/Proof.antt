@@ -1,3 +1,4 @@
+-- The pairs say how long the record is; the front is written before them where there is room. Assumes nothing.
 use Prim.Native.Nat.{_-_}
 use borrow.Author.Needs.{needs}
 use Rattle.record.proofs.BuildAnswers.{no-room, record-made}
@@ -6,8 +7,17 @@ use Rattle.record.proofs.write_record.Tie as tie
 
 ruleset all = (needs)
 
-record-length-requires : tie.Need-record-length-requires
-record-length-requires c κs = search all
+mul-list-pairs : tie.Need-mul-list-pairs
+mul-list-pairs c = search all
+
+add-list-pairs : tie.Need-add-list-pairs
+add-list-pairs c = search all
+
+list-pairs-requires : tie.Need-list-pairs-requires
+list-pairs-requires c κs = search all
+
+zero-requires : tie.Need-zero-requires
+zero-requires c κs = search all
 
 same-length : tie.Need-same-length
 same-length c = search all
@@ -15,17 +25,17 @@ same-length c = search all
 returns : tie.Need-returns
 returns c = search no-room
 
-mul-put-record : tie.Need-mul-put-record
-mul-put-record c = search all
+mul-put-front : tie.Need-mul-put-front
+mul-put-front c = search all
 
-add-put-record : tie.Need-add-put-record
-add-put-record c = search all
+add-put-front : tie.Need-add-put-front
+add-put-front c = search all
 
-sub-put-record : tie.Need-sub-put-record
-sub-put-record c = search all
+sub-put-front : tie.Need-sub-put-front
+sub-put-front c = search all
 
-put-record-requires : tie.Need-put-record-requires
-put-record-requires c κs = search all
+put-front-requires : tie.Need-put-front-requires
+put-front-requires c κs = search all
 
 same-length-2 : tie.Need-same-length-2
 same-length-2 c = search all
@@ -34,4 +44,4 @@ returns-2 : tie.Need-returns-2
 returns-2 c = search record-made
 
 pub write-record-spec : {M : Type 1} → statement M
-write-record-spec = tie.close (tie.spec record-length-requires same-length returns mul-put-record add-put-record sub-put-record put-record-requires same-length-2 returns-2)
+write-record-spec = tie.close (tie.spec mul-list-pairs add-list-pairs list-pairs-requires zero-requires same-length returns mul-put-front add-put-front sub-put-front put-front-requires same-length-2 returns-2)
