@@ -4,6 +4,7 @@
 pub mod baseline;
 mod build_calls;
 pub mod calls;
+pub mod clock;
 pub mod fields;
 pub mod foreign;
 mod questions_calls;

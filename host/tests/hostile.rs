@@ -5,9 +5,10 @@ mod common;
 use common::Rig;
 use host::baseline::{self, WORK};
 use host::calls::{Call, Reply};
+use host::clock::seconds;
 use host::fields::{field, Layout};
 use host::foreign::{Cut, Draft};
-use host::Answer;
+use host::{Answer, Noise};
 use std::time::Instant;
 
 const MOST_PAIRS: usize = 523_776;
@@ -96,4 +97,59 @@ fn counts_above_the_limits() {
     draft.holes.push([255; 4]);
     let answer = check(&mut rig, "a hole too many", &draft);
     assert_eq!(answer, refused(3, 1_025));
+}
+
+/// The least time of a few checks through the library.
+fn cost(draft: &Draft) -> f64 {
+    let record = draft.bytes();
+    let mut work = vec![0; WORK];
+    (0..3)
+        .map(|_| seconds(|| drop(host::check(&record, &mut work))))
+        .fold(f64::INFINITY, f64::min)
+}
+
+/// No record costs more than 20 times an honest one of as many pairs, whatever it says.
+#[test]
+fn no_record_is_slow() {
+    let mut rig = Rig::new(25);
+    let honest = full(&mut rig, Layout::Leaning, 64, 1);
+    let for_a_pair = cost(&honest) / MOST_PAIRS as f64;
+    let mut hostile = |what: &str, draft: &Draft, number: u64| {
+        assert_eq!(check(&mut rig, what, draft).number, number, "{what}");
+        let times = cost(draft) / (for_a_pair * draft.pairs.len() as f64);
+        println!("{what}: {times:.1} times an honest record");
+        assert!(times < 20.0, "{what}: {times:.1} times an honest record");
+    };
+
+    let mut noise = Noise(26);
+    let mut one_pair = Draft::of_record(&uniform(1, 8, &mut noise));
+    one_pair.pairs = vec![one_pair.pairs[0]; MOST_PAIRS];
+    hostile("one big pair over and over", &one_pair, 14);
+
+    let mut last = honest.clone();
+    let of_last_two = last.pairs.iter().position(|pair| {
+        let hole = |node: u16| last.nodes[usize::from(node)][1];
+        hole(pair[0]).min(hole(pair[1])) == 1_022
+    });
+    last.pairs
+        .remove(of_last_two.expect("a pair of the last two holes"));
+    hostile("every row good but the last", &last, 14);
+
+    let mut doubled = honest.clone();
+    for k in (1..MOST_PAIRS).step_by(MOST_PAIRS / 64) {
+        doubled.pairs[k] = doubled.pairs[k - 1];
+    }
+    hostile("a doubled pair in every block", &doubled, 14);
+
+    let list = field(Layout::Uniform, 1_024, &mut noise);
+    let mut deep = Draft::new(&list, 64, 1, Cut::Caterpillar, &mut noise);
+    hostile("a tree 1,023 deep", &deep, 0);
+    deep.pairs[0] = deep.pairs[1];
+    hostile("a tree 1,023 deep with a doubled pair", &deep, 14);
+}
+
+/// The record of a uniform field of 1,024 holes.
+fn uniform(a: u64, b: u64, noise: &mut Noise) -> Vec<u8> {
+    let list = field(Layout::Uniform, 1_024, noise);
+    baseline::build(&list, a, b, WORK, usize::MAX).expect("a field within the limits")
 }

@@ -1,7 +1,7 @@
 -- What the questions answer for a record that is taken: each refusal where its test holds and none before it does. Assumes nothing.
 use mathlib.Core.Path.{_≡_, refl, sym, _∙_}
 use mathlib.Core.Bool.{Bool, true, false}
-use mathlib.Core.List.{List, [], _∷_}
+use mathlib.Core.List.{List}
 use Prim.Native.Nat.{ℕ, _+_, _*_, _/_, _%_, _<_, _≤_}
 use native.Mathlib.Omega.{arith}
 use lib.Dec.{leb}
@@ -10,7 +10,7 @@ use borrow.Author.Tests.{eq-eqb, ne-eqb, le-leb, lt-leb, leb-true, leb-false}
 use Rattle.paper.specs.Field.{square}
 use Rattle.paper.specs.Record.{viewOf}
 use Rattle.paper.specs.Rules.{hole-count}
-use Rattle.paper.specs.Refusals.{Answer, Line, refused, given, when_refuse_, in-order_else_, check}
+use Rattle.paper.specs.Refusals.{refused, given, check}
 use Rattle.paper.specs.Questions.{apart, nearest, keeps, closest, pitch}
 use Rattle.paper.specs.Answers.{refuses, checked, found, pitched, TestsPitch}
 use Rattle.paper.specs.declared.Refusal.{Refusal}

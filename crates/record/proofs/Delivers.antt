@@ -1,15 +1,15 @@
 -- Demand 2 at the level of the call, and its side of demand 3: a build that is finished has delivered the field's record, and `check` takes it.
 -- A build that says it wrote n bytes was not refused, so its output is the record and zeros; the rest is theory's. Assumes nothing.
 use mathlib.Core.Path.{_≡_, refl, sym, ap, ap₂, _∙_}
-use mathlib.Core.List.{List, _++_, map}
+use mathlib.Core.List.{List, _++_}
 use Prim.Native.Nat.{ℕ, _+_, _-_, _/_, _≤_}
 use native.Mathlib.Omega.{arith}
 use lib.ListN.{length, take, drop, replicate, length-append, length-replicate}
 use lib.Seq.{take-append-seam, drop-append-seam}
 use Rattle.words.specs.Words.{Bytes}
 use Rattle.paper.specs.Field.{least-work}
-use Rattle.paper.specs.Pairs.{pairsOf, numbers}
-use Rattle.paper.specs.Record.{View, viewOf, written, built, whole}
+use Rattle.paper.specs.Pairs.{pairsOf}
+use Rattle.paper.specs.Record.{View, written, built, whole}
 use Rattle.paper.specs.Refusals.{Answer, refused, given, build, check}
 use Rattle.paper.specs.Answers.{counted, left-in, Builds, Checks}
 use Rattle.paper.specs.declared.Wrote.the-variants as W

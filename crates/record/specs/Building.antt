@@ -1,7 +1,7 @@
 -- What the builder's steps ask and leave, from a list of coordinates to the bytes of its record. Assumes nothing.
 use mathlib.Core.Path.{_≡_}
 use mathlib.Core.List.{List, [], _∷_, _++_, map}
-use Prim.Native.Nat.{ℕ, _+_, _*_, _-_, _≤_}
+use Prim.Native.Nat.{ℕ, _+_, _*_, _≤_}
 use lib.ListN.{length, replicate}
 use Rattle.words.specs.Words.{bytes, Bytes}
 use Rattle.slate.specs.Slate.{Grid}
@@ -9,7 +9,7 @@ use Rattle.paper.specs.Lists.{joined}
 use Rattle.paper.specs.Field.{Ratio, most-holes, holesAt}
 use Rattle.paper.specs.Tree.{treeOf}
 use Rattle.paper.specs.Pairs.{pairsOf, numbers}
-use Rattle.paper.specs.Record.{entries, nodes-of, two-numbers, whole}
+use Rattle.paper.specs.Record.{entries, nodes-of, two-numbers}
 use Rattle.paper.specs.Refusals.{build}
 use Rattle.paper.specs.Answers.{wrote, counted, left-in}
 use Rattle.paper.specs.declared.Wrote.{Wrote}

@@ -5,9 +5,10 @@ use super::tree::Ranks;
 use super::{Refusal, Result};
 use std::ops::Range;
 
-/// Refusal 14: the least hole i, and for it the least j above it, that are not covered exactly once. The pairs are all separated.
-pub fn demand_cover(pairs: &[u8], ranks: &Ranks) -> Result<()> {
-    if covers(pairs, ranks) {
+/// Refusal 14: the least hole i, and for it the least j above it, that are not covered exactly once. The pairs are all separated. The cells that
+/// are marked at a time take no more than 9/16 of the bytes of a work area of the given length, which the tree and the ranks leave free.
+pub fn demand_cover(pairs: &[u8], ranks: &Ranks, work: usize) -> Result<()> {
+    if covers(pairs, ranks, work) {
         return Ok(());
     }
     match least_uncovered(pairs, ranks) {
@@ -19,13 +20,23 @@ pub fn demand_cover(pairs: &[u8], ranks: &Ranks) -> Result<()> {
     }
 }
 
-/// Whether the pairs cover every two holes exactly once. The holes under one side of a pair are a run of ranks, and the two runs of a pair that
-/// is separated do not meet; so the pair covers a rectangle of cells above the diagonal of the matrix of ranks. Gives up at the first cell that is
-/// marked twice, so that no more cells are marked than there are.
-fn covers(pairs: &[u8], ranks: &Ranks) -> bool {
+/// Whether the pairs cover every two holes exactly once: block by block of the rows of the matrix of ranks, as many as fit.
+fn covers(pairs: &[u8], ranks: &Ranks, work: usize) -> bool {
     let n = ranks.of_hole.len();
-    let mut cells = vec![0; n * n];
+    let rows = work / 16 * 9 / n;
+    let mut cells = vec![0; rows.min(n) * n];
+    (0..n)
+        .step_by(rows)
+        .all(|start| covers_block(pairs, ranks, start..n.min(start + rows), &mut cells))
+}
+
+/// The same for some rows. The holes under one side of a pair are a run of ranks, and the two runs of a pair that is separated do not meet; so the
+/// pair covers a rectangle of cells above the diagonal. Gives up at the first cell that is marked twice, so that no more cells are marked than
+/// there are.
+fn covers_block(pairs: &[u8], ranks: &Ranks, block: Range<usize>, cells: &mut [u8]) -> bool {
+    let n = ranks.of_hole.len();
     let mut marked = 0;
+    cells.fill(0);
     for (one, other) in read_pairs(pairs) {
         let (one, other) = (&ranks.runs[one], &ranks.runs[other]);
         let (rows, columns) = if one.start < other.start {
@@ -33,14 +44,15 @@ fn covers(pairs: &[u8], ranks: &Ranks) -> bool {
         } else {
             (other, one)
         };
-        for row in rows.clone() {
-            if !mark(&mut cells[row * n + columns.start..row * n + columns.end]) {
+        for row in rows.start.max(block.start)..rows.end.min(block.end) {
+            let at = (row - block.start) * n;
+            if !mark(&mut cells[at + columns.start..at + columns.end]) {
                 return false;
             }
+            marked += columns.len();
         }
-        marked += rows.len() * columns.len();
     }
-    marked == n * (n - 1) / 2
+    marked == block.map(|row| n - 1 - row).sum()
 }
 
 /// Marks some cells of a row; false where one of them was marked before.

@@ -117,7 +117,7 @@ pub fn take(record: &[u8], work: usize) -> Result<Taken<'_>> {
         .map(Rectangle::shape)
         .collect();
     demand_separated(pairs, &shapes, layout.ratio)?;
-    demand_cover(pairs, &Ranks::new(&nodes, layout.n))?;
+    demand_cover(pairs, &Ranks::new(&nodes, layout.n), work)?;
     Ok(Taken {
         layout,
         holes,

@@ -8,6 +8,7 @@
 
 use host::baseline::{self, WORK};
 use host::calls::{baseline, library, Call};
+use host::clock::{processor_seconds, seconds};
 use host::fields::{field, Layout};
 use host::Noise;
 use std::hint::black_box;
@@ -94,9 +95,10 @@ impl Buffers {
         black_box(library(call, input, &mut self.work, &mut self.out));
     }
 
-    fn run_baseline(&self, sheet: &Sheet, call: Call) {
+    /// Runs the baseline, which takes as many bytes for its cells as a work area of the given length leaves free.
+    fn run_baseline(&self, sheet: &Sheet, call: Call, work: usize) {
         let input = black_box(sheet.input(call));
-        black_box(baseline(call, input, WORK, self.out.len()));
+        black_box(baseline(call, input, work, self.out.len()));
     }
 }
 
@@ -113,48 +115,19 @@ impl Both {
     }
 }
 
-/// C's struct timespec on x86-64 Linux.
-#[repr(C)]
-struct Timespec {
-    seconds: i64,
-    nanoseconds: i64,
-}
-
-extern "C" {
-    fn clock_gettime(clock: i32, time: *mut Timespec) -> i32;
-}
-
-/// Seconds that this thread has run on a processor, which other work on the machine does not lengthen.
-fn processor_seconds() -> f64 {
-    const CLOCK_THREAD_CPUTIME_ID: i32 = 3;
-    let mut time = Timespec {
-        seconds: 0,
-        nanoseconds: 0,
-    };
-    let failed = unsafe { clock_gettime(CLOCK_THREAD_CPUTIME_ID, &mut time) };
-    assert_eq!(failed, 0, "the thread's clock");
-    time.seconds as f64 + 1e-9 * time.nanoseconds as f64
-}
-
-fn seconds(run: impl FnOnce()) -> f64 {
-    let start = processor_seconds();
-    run();
-    processor_seconds() - start
-}
-
 fn median(mut times: Vec<f64>) -> f64 {
     times.sort_by(f64::total_cmp);
     times[times.len() / 2]
 }
 
 /// Medians of interleaved runs: 15, or fewer that take three seconds, but three at least.
-fn time(sheet: &Sheet, call: Call) -> Both {
+fn time(sheet: &Sheet, call: Call, work: usize) -> Both {
     let mut buffers = Buffers::new(sheet);
     let (mut of_library, mut of_baseline) = (Vec::new(), Vec::new());
     let start = processor_seconds();
     while of_library.len() < 3 || (of_library.len() < 15 && processor_seconds() - start < 3.0) {
         of_library.push(seconds(|| buffers.run_library(sheet, call)));
-        of_baseline.push(seconds(|| buffers.run_baseline(sheet, call)));
+        of_baseline.push(seconds(|| buffers.run_baseline(sheet, call, work)));
     }
     Both {
         library: median(of_library),
@@ -234,23 +207,51 @@ fn table(with_instructions: bool) {
         columns.extend(COUNTS);
     }
     head(&columns);
+    let mut ratios = Vec::new();
     for layout in LAYOUTS {
         for a in RATIOS {
-            rows(&Sheet::new(layout, 1_024, a, 1), with_instructions);
+            let sheet = Sheet::new(layout, 1_024, a, 1);
+            ratios.extend(rows(&sheet, with_instructions));
+            let whole = time(&sheet, Call::Check, 2 * sheet.n * sheet.n);
+            ratios.push((WHOLE, whole.ratio()));
         }
+    }
+    summary(&ratios);
+}
+
+/// The checker against a baseline that has a byte for each cell at once.
+const WHOLE: &str = "check, against a baseline with n² bytes";
+
+/// The mean and the greatest ratio of each call.
+fn summary(ratios: &[(&str, f64)]) {
+    println!();
+    head(&["call", "rows", "mean library / baseline", "greatest"]);
+    for name in CALLS.into_iter().chain([WHOLE]) {
+        let of_call: Vec<f64> = ratios
+            .iter()
+            .filter(|(call, _)| *call == name)
+            .map(|(_, ratio)| *ratio)
+            .collect();
+        println!(
+            "| {name} | {} | {:.2} | {:.2} |",
+            of_call.len(),
+            of_call.iter().sum::<f64>() / of_call.len() as f64,
+            of_call.iter().copied().fold(0.0, f64::max)
+        );
     }
 }
 
-/// The rows of one field at one ratio.
-fn rows(sheet: &Sheet, with_instructions: bool) {
-    let check = time(sheet, Call::Check);
+/// The rows of one field at one ratio; gives each call's ratio to the baseline.
+fn rows(sheet: &Sheet, with_instructions: bool) -> Vec<(&'static str, f64)> {
+    let check = time(sheet, Call::Check, WORK);
+    let mut ratios = Vec::new();
     for name in CALLS {
         let Some(call) = sheet.call(name) else {
             continue;
         };
         let times = match call {
             Call::Check => check,
-            _ => time(sheet, call),
+            _ => time(sheet, call, WORK),
         };
         let share = times.library / check.library;
         println!(
@@ -268,7 +269,9 @@ fn rows(sheet: &Sheet, with_instructions: bool) {
                 String::new()
             }
         );
+        ratios.push((name, times.ratio()));
     }
+    ratios
 }
 
 /// How build and check grow with the field: uniform fields at 3/1.
@@ -306,7 +309,7 @@ fn growth_row(
     before: Option<f64>,
     with_instructions: bool,
 ) -> f64 {
-    let times = time(sheet, call);
+    let times = time(sheet, call, WORK);
     println!(
         "| {name} | {} | {} | {:.3} | {:.3} | {:.2} | {} |{}",
         sheet.n,
@@ -339,7 +342,7 @@ fn one(words: &[&str]) -> Option<()> {
     let mut buffers = Buffers::new(&sheet);
     match *side {
         "library" => buffers.run_library(&sheet, call),
-        "baseline" => buffers.run_baseline(&sheet, call),
+        "baseline" => buffers.run_baseline(&sheet, call, WORK),
         "none" => (),
         _ => return None,
     }
