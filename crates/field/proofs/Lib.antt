@@ -1,4 +1,5 @@
 pub mod Boxes
 pub mod Axis
 pub mod Places
+pub mod Chains
 pub mod Longest

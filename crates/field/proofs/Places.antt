@@ -72,31 +72,22 @@ module _ (d : ℕ) (s : List ℕ) where
     λ r. repeats-is (holesAt d s 0 (i + 1)) i .1 (repeats-in n (i + 1) i l (omega arith) r),
   )
 
-  -- none of the first j holes stands where hole i does
+  -- whether holes j and i stand at one place
   abbrev pub at-one : ℕ → ℕ → Bool
   at-one j i = same (holeAt d s (2 * d * j)) (holeAt d s (2 * d * i))
 
-  pub record NoneAt (i j : ℕ) : Type 0 where
-    pub none : (k : ℕ) → k < j → at-one k i ≡ false
-
-  pub none-at-start : {i : ℕ} → NoneAt i 0
-  none-at-start = record { none = λ k l. absurd (omega arith) }
-
-  pub none-at-more : {i j : ℕ} (t : Bool) → NoneAt i j → t ≡ at-one j i → t ≡ false → NoneAt i (j + 1)
-  none-at-more {j} t n e f = record { none = below-more _ j (n .none) (sym e ∙ f) }
-
-  pub repeat : (i j : ℕ) (t : Bool) → j < i → t ≡ at-one j i → t ≡ true → true ≡ again i
-  repeat i j t l e f =
-      let p = hole-at (i + 1) j (omega arith) ∙ same-is (holeAt d s (2 * d * j)) (holeAt d s (2 * d * i)) .0 (sym e ∙ f) in
+  pub repeat : (i j : ℕ) → j < i → at-one j i ≡ true → true ≡ again i
+  repeat i j l e =
+      let p = hole-at (i + 1) j (omega arith) ∙ same-is (holeAt d s (2 * d * j)) (holeAt d s (2 * d * i)) .0 e in
       sym (repeats-is _ i .1 (record { other = j; lower = l; place = p ∙ sym (hole-at (i + 1) i (omega arith)) }))
 
-  pub no-repeat : (i j : ℕ) → NoneAt i j → i ≤ j → false ≡ again i
-  no-repeat i j n l =
+  pub no-repeat : (i : ℕ) → ((j : ℕ) → j < i → at-one j i ≡ true → ⊥) → false ≡ again i
+  no-repeat i n =
       sym (not-so (λ t.
       let r = repeats-is (holesAt d s 0 (i + 1)) i .0 t in
-      let k = r .other in
-      let e = sym (hole-at (i + 1) k (omega (arith, r .lower))) ∙ r .place ∙ hole-at (i + 1) i (omega arith) in
-      both (same-is (holeAt d s (2 * d * k)) (holeAt d s (2 * d * i)) .1 e) (n .none k (omega (arith, r .lower)))))
+      let j = r .other in
+      let e = sym (hole-at (i + 1) j (omega (arith, r .lower))) ∙ r .place ∙ hole-at (i + 1) i (omega arith) in
+      n j (r .lower) (same-is (holeAt d s (2 * d * j)) (holeAt d s (2 * d * i)) .1 e)))
 
   -- none of the first i holes of n is a repeat
   pub record NoneBefore (n i : ℕ) : Type 0 where

@@ -1,3 +1,4 @@
 pub mod Found
 pub mod Boxes
+pub mod Buckets
 pub mod Sides

@@ -6,13 +6,14 @@ ghost use Prim.Native.Nat.{_+_, _*_, _<_, _≤_, min, max};
 ghost use lib.Dec.{eqb, leb};
 ghost use lib.ListN.{getD};
 ghost use Rattle.words.specs.Words.{Read};
+ghost use Rattle.slate.specs.Slate.{Grid};
 ghost use Rattle.paper.specs.Lists.{same};
 ghost use Rattle.paper.specs.Field.{holeAt, holesAt, gap, square, Ratio};
 ghost use Rattle.paper.specs.Tree.{point, spot, around, long, longest, axis};
 ghost use Rattle.paper.specs.Separation.{G, D, separated};
-ghost use Rattle.paper.specs.Rules.{repeats, Repeats};
-ghost use Rattle.field.specs.Found.{Finds};
+ghost use Rattle.paper.specs.Rules.{repeats};
 ghost use Rattle.field.specs.Boxes.{HolesIn, HoleIn, NodeOn, Boxed, sideOn, boxOn};
+ghost use Rattle.field.specs.Buckets.{Bucketed, Chained, Pushed, Searched};
 ghost use Rattle.field.specs.Sides.{side, sideAround, twice-centre, gapOn, SideIn, Sided, Squared};
 
 // What a search over numbers finds: the least with a property.
@@ -44,28 +45,62 @@ pub fn same_place(holes: &[u8], d: usize, i: usize, j: usize) -> bool
     true
 }
 
-// Whether hole i stands where a lower-numbered one does.
-fn is_repeat(holes: &[u8], d: usize, i: usize) -> bool
+// How many buckets holes are sorted into; a prime, so that holes on a grid are spread.
+const BUCKETS: usize = 2039;
+
+// The bucket of hole i: a number that its coordinates make, so the same for holes at one place.
+fn bucket(holes: &[u8], d: usize, i: usize) -> usize
     requires { ⌜ HoleIn (now holes) d i ⌝ }
+    ensures { λ r. ⌜ Bucketed (now (holes .entry)) d (2 * d * i) r ⌝ }
+{
+    let mut b = 0;
+    for x in 0..d {
+        b = (37 * b + coordinate(holes, d, i, x)) % BUCKETS;
+    }
+    b
+}
+
+// Whether hole i stands where a lower-numbered one does: such a hole is on the chain of its bucket b.
+fn is_repeat(work: &[u8], holes: &[u8], d: usize, i: usize, b: usize) -> bool
+    requires { ⌜ HoleIn (now holes) d i ⌝ }
+    requires { ⌜ Chained (now holes) d (now work) i ⌝ }
+    requires { ⌜ Bucketed (now holes) d (2 * d * i) b ⌝ }
     ensures { λ r. ⌜ r ≡ repeats (holesAt d (now (holes .entry)) 0 (i + 1)) i ⌝ }
 {
-    for j in 0..i {
-        if same_place(holes, d, j, i) {
+    let mut c = slate::cell(work, slate::MARKS, b);
+    while 0 < c {
+        if same_place(holes, d, c - 1, i) {
             return true;
         }
+        c = slate::cell(work, slate::SCRATCH, c - 1);
     }
     false
 }
 
-// The least of n holes that stands where a lower-numbered one does.
-pub fn repeated(holes: &[u8], d: usize, n: usize) -> Found
-    requires { ⌜ HolesIn (now holes) d n ⌝ }
-    ensures { λ r. ⌜ Finds (Repeats (holesAt d (now (holes .entry)) 0 n)) n r ⌝ }
+// Puts hole i at the head of the chain of bucket b.
+fn push(work: &mut [u8], i: usize, b: usize)
+    requires { ⌜ Grid (now work) ⌝ }
+    requires { ⌜ (i < 1024) × (b < 2048) ⌝ }
+    ensures { λ _. ⌜ Pushed (now (work .entry)) (now (work .exit)) i b ⌝ }
 {
+    let head = slate::cell(work, slate::MARKS, b);
+    slate::set_cell(work, slate::SCRATCH, i, head);
+    slate::set_cell(work, slate::MARKS, b, i + 1);
+}
+
+// The least of n holes that stands where a lower-numbered one does. Each is compared only with those of its bucket.
+pub fn repeated(work: &mut [u8], holes: &[u8], d: usize, n: usize) -> Found
+    requires { ⌜ Grid (now work) ⌝ }
+    requires { ⌜ HolesIn (now holes) d n ⌝ }
+    ensures { λ r. ⌜ Searched (now (holes .entry)) d n (now (work .entry)) (now (work .exit)) r ⌝ }
+{
+    slate::clear(work, slate::MARKS, BUCKETS);
     for i in 0..n {
-        if is_repeat(holes, d, i) {
+        let b = bucket(holes, d, i);
+        if is_repeat(work, holes, d, i, b) {
             return Found::At(i);
         }
+        push(work, i, b);
     }
     Found::Nothing
 }

@@ -26,6 +26,7 @@ use Rattle.theory.proofs.Reading.{length-holes, holes-flat}
 use Rattle.theory.proofs.Fields.{nodes-tree}
 use Rattle.theory.proofs.Lengths.{length-whole}
 use Rattle.field.specs.Found.{Finds}
+use Rattle.field.specs.Buckets.{Searched}
 use Rattle.field.specs.declared.Found.{Found}
 use Rattle.field.specs.declared.Found.the-variants.{At, Nothing}
 use Rattle.pairs.specs.Listing.{Listed, pairsOn}
@@ -156,10 +157,10 @@ module _ (c out : List ℕ) (a b w : ℕ) (blank : Blank out) where
           right : Ratio a b
           right = ratio-is a b .0 (sym tested ∙ not-false t e)
 
-          pub refuse-twice : {s : Found} {i : ℕ} → Finds (Repeats (holesAt 2 c 0 (length c / 4))) (length c / 4) s → s ≡ At i
+          pub refuse-twice : {u v : List ℕ} {s : Found} {i : ℕ} → Searched c 2 (length c / 4) u v s → s ≡ At i
               → Made c a b w out out (W.Refused (R.Twice i))
           refuse-twice {i} d q =
-              let g : Finds (Repeats (holesAt 2 c 0 (length c / 4))) (length c / 4) (At i) = rw q at d in
+              let g : Finds (Repeats (holesAt 2 c 0 (length c / 4))) (length c / 4) (At i) = rw q at (d .found) in
               refusing (R.Twice i)
               (later (λ y d. omega (arith, d .0))
               (later (λ y d. d .0 even)
@@ -169,11 +170,11 @@ module _ (c out : List ℕ) (a b w : ℕ) (blank : Blank out) where
               (here refl (rw (length-holes 2 c 0 (length c / 4)) g)))))))
 
 -- a field that none of the first six refusals is due for
-pub buildable : (c : List ℕ) → Bytes c → (a b : ℕ) {t : Bool} {s : Found} → t ≡ ratio-ok a b → not t ≡ false
-    → Finds (Repeats (holesAt 2 c 0 (length c / 4))) (length c / 4) s → s ≡ Nothing → length c % 4 ≡ 0 → (length c / 4 ≡ 0 → ⊥)
+pub buildable : (c : List ℕ) → Bytes c → (a b : ℕ) {t : Bool} {u v : List ℕ} {s : Found} → t ≡ ratio-ok a b → not t ≡ false
+    → Searched c 2 (length c / 4) u v s → s ≡ Nothing → length c % 4 ≡ 0 → (length c / 4 ≡ 0 → ⊥)
     → length c / 4 ≤ 1_024 → Buildable c a b (length c / 4)
 buildable c small a b {t} tested e d q even some few =
-    let g : Finds (Repeats (holesAt 2 c 0 (length c / 4))) (length c / 4) Nothing = rw q at d in
+    let g : Finds (Repeats (holesAt 2 c 0 (length c / 4))) (length c / 4) Nothing = rw q at (d .found) in
     record {
       even = omega arith;
       some = omega arith;
@@ -182,6 +183,10 @@ buildable c small a b {t} tested e d q even some few =
       distinct = λ i j l m e. g j (rw (length-holes 2 c 0 (length c / 4)) at m) (record { other = i; lower = l; place = e });
       small = small;
     }
+
+-- an answer speaks of the work area's length alone
+pub made-there : {c out out′ : List ℕ} {a b v w : ℕ} {r : Wrote} → v ≡ w → Made c a b v out out′ r → Made c a b w out out′ r
+made-there e m = rw e at m
 
 -- the call: a zeroed output is blank, and what was made in it is finished
 pub zeroed : (out : List ℕ) {z : List ℕ} → z ≡ replicate (length out) 0 → Blank z

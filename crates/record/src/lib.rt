@@ -169,7 +169,7 @@ fn inspect_nodes(bytes: &[u8], work: &mut [u8], p: Parts) -> Inspected
     let n = p.n;
     let holes = hole_part(bytes, p);
     let nodes = node_part(bytes, p);
-    if let Found::At(i) = field::repeated(holes, 2, n) {
+    if let Found::At(i) = field::repeated(work, holes, 2, n) {
         return Inspected::Refused(Refusal::Twice(i as u64));
     }
     if let Found::At(k) = tree::load(work, nodes, n) {
@@ -382,7 +382,7 @@ fn build_clean(holes: &[u8], a: u64, b: u64, work: &mut [u8], out: &mut [u8]) ->
     if !ratio_ok(a as usize, b as usize) {
         return Wrote::Refused(Refusal::Ratio);
     }
-    if let Found::At(i) = field::repeated(holes, 2, n) {
+    if let Found::At(i) = field::repeated(work, holes, 2, n) {
         return Wrote::Refused(Refusal::Twice(i as u64));
     }
     fill(holes, a as usize, b as usize, n, work, out)

@@ -1,7 +1,7 @@
 -- The tests in document 01's order, one case for each return. Assumes nothing.
 use native.Mathlib.Omega.{arith}
 use borrow.Author.Needs.{needs}
-use Rattle.record.proofs.BuildAnswers.{refuse-work, refuse-odd, refuse-none, refuse-many, refuse-ratio, refuse-twice, buildable}
+use Rattle.record.proofs.BuildAnswers.{refuse-work, refuse-odd, refuse-none, refuse-many, refuse-ratio, refuse-twice, buildable, made-there}
 use Rattle.record.proofs.build_clean.Statement.{statement}
 use Rattle.record.proofs.build_clean.Tie as tie
 
@@ -31,6 +31,9 @@ repeated-requires c κs = search all
 enum-known-i : tie.Need-enum-known-i
 enum-known-i c = search all
 
+same-length : tie.Need-same-length
+same-length c = search all
+
 returns-6 : tie.Need-returns-6
 returns-6 c = search (refuse-twice, needs)
 
@@ -39,19 +42,21 @@ enum-told c = search all
 
 fill-requires : tie.Need-fill-requires
 fill-requires c κs =
-    let entry = c .before .before .before .before .before .before .before .before .before .before .before .before .before in (
-      buildable (entry .before .args .holes .now) (λ k. omega (arith, entry .shared-slice-known .given k .fits)) _ _ {s = c .before .before .before .before .repeated .result} (c .before .before .before .before .before .before .ratio-ok .ensures) (c .before .before .before .before .before .if5 .left) (c .before .before .before .before .repeated .ensures) (search all) (search all) (search all) (search all),
+    let found = c .before .before .before .before .before .before in
+    let tested = found .before .before in
+    let entry = tested .before .before .before .before .before .before .before .before in (
+      buildable (entry .before .args .holes .now) (λ k. omega (arith, entry .shared-slice-known .given k .fits)) _ _ (tested .before .ratio-ok .ensures) (tested .if5 .left) (found .repeated .ensures) (search all) (search all) (search all) (search all),
       (search all, search all),
     )
-
-same-length : tie.Need-same-length
-same-length c = search all
 
 same-length-2 : tie.Need-same-length-2
 same-length-2 c = search all
 
+same-length-3 : tie.Need-same-length-3
+same-length-3 c = search all
+
 returns-7 : tie.Need-returns-7
-returns-7 c = search all
+returns-7 c = search (made-there, needs)
 
 pub build-clean-spec : {M : Type 1} → statement M
-build-clean-spec = tie.close (tie.spec returns returns-2 returns-3 returns-4 ratio-ok-requires returns-5 repeated-requires enum-known-i returns-6 enum-told fill-requires same-length same-length-2 returns-7)
+build-clean-spec = tie.close (tie.spec returns returns-2 returns-3 returns-4 ratio-ok-requires returns-5 repeated-requires enum-known-i same-length returns-6 enum-told fill-requires same-length-2 same-length-3 returns-7)
