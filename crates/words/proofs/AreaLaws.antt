@@ -7,29 +7,34 @@ use native.Mathlib.Nat.{add-zero, zero-add}
 use native.Mathlib.Omega.{arith}
 use lib.ListN.{length, getD, replicate}
 use lib.Seq.{ext-getD}
-use Rattle.words.specs.Words.{be, bytes, Bytes, Written}
+use Rattle.words.specs.Words.{Bytes, Written}
 use Rattle.words.specs.Area.{word, run, Saved}
-use Rattle.words.proofs.Laws.{be-small, be-zeros, written-back, written-other}
+use Rattle.words.proofs.Laws.{zeros}
 
 -- ---- a word
 
 pub word-small : (w : List ℕ) (i : ℕ) → Bytes w → word w i < 65_536
 unfolding word
-word-small w i b = be-small 2 w (2 * i) b
+word-small w i b = omega (arith, b (2 * i), b (2 * i + 1))
 
 pub word-zeros : (l i : ℕ) → word (replicate l 0) i ≡ zero
 unfolding word
-word-zeros l i = be-zeros 2 l (2 * i)
+word-zeros l i = rw (zeros l (2 * i), zeros l (2 * i + 1))
 
--- a number of two bytes at an even place is a word
-pub saved : {old new : List ℕ} {i v : ℕ} → Written old new (2 * i) (bytes 2 v) → v < 65_536 → Saved old new i v
+-- the two bytes of v at an even place are a word
+pub saved : {old new : List ℕ} {i v : ℕ} → Written old new (2 * i) (v % 256 ∷ v / 256 ∷ []) → Saved old new i v
 unfolding word
-saved {i} {v} p l =
-    record { len = p .len; here = written-back 2 v p l; rest = λ k h. written-other 2 v p 2 (2 * k) (λ a b. h (omega arith)) }
+saved {new} {i} {v} p =
+    let low : getD new (2 * i) 0 ≡ v % 256 = rw add-zero at (p .got 0 (omega arith)) in
+    record {
+      len = p .len;
+      here = omega (arith, low, p .got 1 (omega arith));
+      rest = λ k h. rw (p .rest (2 * k) (λ a b. h (omega arith)), p .rest (2 * k + 1) (λ a b. h (omega arith)));
+    }
 
 -- two areas of bytes, of one even length, with the same words are the same
 pub same-words : (a b : List ℕ) (n : ℕ) → Bytes a → Bytes b → length a ≡ 2 * n → length b ≡ 2 * n → ((k : ℕ) → k < n → word a k ≡ word b k) → a ≡ b
-unfolding word be
+unfolding word
 same-words a b n ba bb la lb h = ext-getD 0 a b (la ∙ sym lb) (λ i l. at i (i / 2) (i % 2) (omega arith) (omega arith) (omega arith))
   where
     at : (i k r : ℕ) → i ≡ 2 * k + r → r < 2 → k < n → getD a i 0 ≡ getD b i 0

@@ -1,13 +1,13 @@
--- An area of bytes as words of two bytes, word i at byte 2 * i. Assumes nothing.
+-- An area of bytes as words of two bytes, word i at byte 2 * i, low byte first: nobody outside sees an area, and so a machine reads a word in one
+-- step. Assumes nothing.
 use mathlib.Core.Path.{_≡_}
 use mathlib.Core.List.{List, [], _∷_}
 use Prim.Native.Nat.{ℕ, zero, suc, _+_, _*_, _<_}
-use lib.ListN.{length}
-use Rattle.words.specs.Words.{be}
+use lib.ListN.{length, getD}
 
 -- word i
 unfoldable pub word : List ℕ → ℕ → ℕ
-word w i = be 2 w (2 * i)
+word w i = getD w (2 * i) 0 + 256 * getD w (2 * i + 1) 0
 
 -- the n words from word i on
 unfoldable pub run : List ℕ → ℕ → ℕ → List ℕ

@@ -1,4 +1,4 @@
-// Numbers in byte slices, high byte first; the words of an area by index; copying and zeroing.
+// Numbers in byte slices, high byte first; the words of an area by index, low byte first; copying and zeroing.
 // It knows nothing of holes and trees. Each contract says the whole result, and the laws callers cite are in proofs/.
 ghost use mathlib.Core.Path.{_≡_};
 ghost use Prim.Native.Nat.{_+_, _*_, _≤_, _<_};
@@ -83,12 +83,12 @@ pub fn zero(s: &mut [u8])
     }
 }
 
-// Word i of an area: the two bytes at 2 * i.
+// Word i of an area: the two bytes at 2 * i, low byte first.
 pub fn load(w: &[u8], i: usize) -> usize
     requires { ⌜ 2 * i + 2 ≤ length (now w) ⌝ }
     ensures { λ r. ⌜ Loaded (now (w .entry)) i r ⌝ }
 {
-    get16(w, 2 * i)
+    wide(w[2 * i]) + 256 * wide(w[2 * i + 1])
 }
 
 // Sets word i of an area to v.
@@ -96,5 +96,6 @@ pub fn save(w: &mut [u8], i: usize, v: usize)
     requires { ⌜ (2 * i + 2 ≤ length (now w)) × (v < 65536) ⌝ }
     ensures { λ _. ⌜ Saved (now (w .entry)) (now (w .exit)) i v ⌝ }
 {
-    put16(w, 2 * i, v);
+    w[2 * i] = (v % 256) as u8;
+    w[2 * i + 1] = (v / 256) as u8;
 }
