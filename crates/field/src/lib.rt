@@ -211,7 +211,7 @@ pub fn girth(work: &[u8], d: usize, k: usize) -> usize
 // The longest side of node k's box.
 pub fn longest_side(work: &[u8], d: usize, k: usize) -> usize
     requires { ⌜ NodeOn (now work) d k ⌝ }
-    ensures { λ r. ⌜ r ≡ longest (boxOn (now (work .entry)) d k) ⌝ }
+    ensures { λ r. ⌜ (r ≡ longest (boxOn (now (work .entry)) d k)) × (r < 65536) ⌝ }
 {
     let mut most = 0;
     for x in 0..d {

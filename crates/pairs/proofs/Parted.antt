@@ -8,7 +8,7 @@ use native.Mathlib.Omega.{arith}
 use lib.Dec.{eqb}
 use lib.ListN.{length, length-append}
 use borrow.Author.Tests.{eqb-true}
-use Rattle.slate.specs.Columns.{FIRST, SECOND}
+use Rattle.slate.specs.Columns.{FIRST, SECOND, SIDE}
 use Rattle.slate.specs.Slate.{cell, Held}
 use Rattle.paper.specs.Tree.{Tree, leaf, fork, longest}
 use Rattle.paper.specs.Separation.{separated}
@@ -152,14 +152,18 @@ module _ {w : List ℕ} {d a b n i j : ℕ} (f : Faces w d a b n i j) where
           pairs = rw (B, rule-second (farOn w d a b) (longOn w d) A j p q no longer, map-append);
         }
 
+-- what SIDE holds is the longest side
+side-held : {w : List ℕ} {d a b n i j q : ℕ} → Faces w d a b n i j → (k : ℕ) → k < nodes-of n → Held w SIDE k q → q ≡ longest (boxOn w d k)
+side-held f k l s = s .is ∙ f .listable .sides .is k l
+
 -- the same by what the code has found: the longest sides, and the two parts of the node that is split
 module _ {w : List ℕ} {d a b n i j p q x z : ℕ} (f : Faces w d a b n i j) (e : separated a b (boxOn w d i) (boxOn w d j) ≡ false)
-    (m : q ≡ longest (boxOn w d j)) (l : p ≡ longest (boxOn w d i)) where
+    (m : Held w SIDE j q) (l : Held w SIDE i p) where
   pub split-first : q < p → Held w FIRST i x → Held w SECOND i z → Parts w d a b n i j x j z j
-  split-first h s t = rw (s .is, t .is) (parts-first f e (rw (← m, ← l) h))
+  split-first h s t = rw (s .is, t .is) (parts-first f e (rw (← side-held f j (f .right) m, ← side-held f i (f .left) l) h))
 
   pub split-second : p ≤ q → Held w FIRST j x → Held w SECOND j z → Parts w d a b n i j i x i z
-  split-second h s t = rw (s .is, t .is) (parts-second f e (rw (← m, ← l) h))
+  split-second h s t = rw (s .is, t .is) (parts-second f e (rw (← side-held f j (f .right) m, ← side-held f i (f .left) l) h))
 
 -- ---- what the cycle of `compare` and `split` is asked at its calls
 

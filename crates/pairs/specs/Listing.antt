@@ -2,14 +2,16 @@
 use mathlib.Core.Path.{_≡_}
 use mathlib.Core.Bool.{Bool}
 use mathlib.Core.List.{List, _++_, map}
-use Prim.Native.Nat.{ℕ, _+_, _*_, _≤_}
+use Prim.Native.Nat.{ℕ, _+_, _*_, _<_, _≤_}
 use lib.ListN.{length, take, drop}
 use Rattle.paper.specs.Lists.{joined}
 use Rattle.paper.specs.Field.{Ratio}
 use Rattle.paper.specs.Tree.{Tree, number, longest}
 use Rattle.paper.specs.Separation.{separated}
 use Rattle.paper.specs.Pairs.{pairs, numbers}
-use Rattle.paper.specs.Record.{two-numbers}
+use Rattle.slate.specs.Columns.{SIDE, LOW}
+use Rattle.slate.specs.Slate.{cell, Grid, Kept}
+use Rattle.paper.specs.Record.{nodes-of, two-numbers}
 use Rattle.field.specs.Boxes.{Axes, boxOn}
 use Rattle.tree.specs.Standing.{treeOn, Stands}
 use Rattle.theory.specs.Trees.{Met, grow}
@@ -26,11 +28,27 @@ longOn w d A = longest (boxOn w d (number A))
 abbrev pub grownOn : List ℕ → ℕ → Tree
 grownOn w n = grow (treeOn w n) 0
 
+-- SIDE says of each node the longest side of its box
+pub record Sides (w : List ℕ) (d n : ℕ) : Type 0 where
+  pub is : (k : ℕ) → k < nodes-of n → cell w SIDE k ≡ longest (boxOn w d k)
+
+-- a tree of n holes with its boxes; and its sides are written, beside which nothing has changed
+pub record Boxes (w : List ℕ) (d n : ℕ) : Type 0 where
+  pub grid : Grid w
+  pub axes : Axes d
+  pub some : 1 ≤ n
+  pub few : n ≤ 1_024
+
+pub record SidesPut (d n : ℕ) (old new : List ℕ) : Type 0 where
+  pub kept : Kept old new (2_048 * SIDE) (2_048 * LOW)
+  pub sides : Sides new d n
+
 -- a tree that may be listed: its nodes are numbered as they are met, a leaf is never split
 pub record Listable (w : List ℕ) (d a b n : ℕ) : Type 0 where
   pub stands : Stands w n
   pub axes : Axes d
   pub ratio : Ratio a b
+  pub sides : Sides w d n
   pub met : Met 0 (grownOn w n)
   pub regular : Regular (farOn w d a b) (longOn w d) (grownOn w n)
 

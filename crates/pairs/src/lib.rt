@@ -9,7 +9,7 @@ ghost use Rattle.field.specs.Found.{Finds};
 ghost use Rattle.paper.specs.Separation.{separated};
 ghost use Rattle.field.specs.Boxes.{Axes, boxOn};
 ghost use Rattle.pairs.specs.Checking.{PairsIn, PairIn, PairOn, Judged};
-ghost use Rattle.pairs.specs.Listing.{Listable, Listed, pairsOn};
+ghost use Rattle.pairs.specs.Listing.{Boxes, SidesPut, Listable, Listed, pairsOn};
 ghost use Rattle.pairs.specs.Comparing.{Laid, BothLeaves, Faces, Comparing, comparedOn, NodeListing, nodePairs};
 ghost use Rattle.slate.specs.Slate.{Grid};
 use field::Found;
@@ -68,6 +68,17 @@ fn put_pair(out: &mut [u8], at: usize, i: usize, j: usize) -> usize
     words::put16(out, at, i);
     words::put16(out, at + 2, j);
     next
+}
+
+// Writes the longest side of each node of a tree of n holes, which splitting asks for again and again.
+pub fn put_sides(work: &mut [u8], d: usize, n: usize)
+    requires { ⌜ Boxes (now work) d n ⌝ }
+    ensures { λ _. ⌜ SidesPut d n (now (work .entry)) (now (work .exit)) ⌝ }
+{
+    for k in 0..2 * n - 1 {
+        let side = field::longest_side(work, d, k);
+        slate::set_cell(work, slate::SIDE, k, side);
+    }
 }
 
 // Whether nodes i and j are leaves.
@@ -132,7 +143,7 @@ fn split(
     requires { ⌜ separated a b (boxOn (now work) d i) (boxOn (now work) d j) ≡ false ⌝ }
     ensures { λ r. ⌜ Laid (comparedOn (now (work .entry)) d a b n i j) at (now (out .entry)) (now (out .exit)) r ⌝ }
 {
-    if field::longest_side(work, d, j) < field::longest_side(work, d, i) {
+    if slate::cell(work, slate::SIDE, j) < slate::cell(work, slate::SIDE, i) {
         let first = slate::cell(work, slate::FIRST, i);
         let second = slate::cell(work, slate::SECOND, i);
         let middle = compare(work, out, d, a, b, n, first, j, at);

@@ -100,9 +100,9 @@ module _ {c : List ℕ} {a b n : ℕ} (f : Buildable c a b n) where
         let q = passed c a b (length w) (length out) at-count enough (here refl (omega (arith, r-is, l .len), r-is)) in
         record { answer = rw q refl; output = rw (q, ← l .len) z }
 
-    -- m pairs are said in front, as the code counts them
-    pub count-said : (r - (6 + 12 * n)) / 4 ≡ length (pairsOn w 2 a b n)
-    count-said = omega (arith, l .next)
+    -- the place after the pairs, and so how many there are
+    pub pairs-end : 6 + 12 * n ≤ r
+    pairs-end = omega (arith, l .next)
 
     pub record-made : {out″ : List ℕ} → r ≤ length out′ → Written out′ out″ 0 (front c a b n ((r - (6 + 12 * n)) / 4) w)
         → Made c a b (length w) out out″ (W.Bytes r)
@@ -110,7 +110,7 @@ module _ {c : List ℕ} {a b n : ℕ} (f : Buildable c a b n) where
     record-made {out″} h s =
         let its = written (built a b (holesAt 2 c 0 (length c / 4))) in
         let q = finished c a b (length w) (length out) at-count enough (omega (arith, r-is, l .len)) in
-        let s′ : Written out out″ 0 its = rw count-is (record-done f d count-said l h s) in
+        let s′ : Written out out″ 0 its = rw count-is (record-done f d (omega (arith, l .next)) l h s) in
         let t = written-all s′ (omega (arith, r-is, l .len)) in
         let zeros = ap (λ (z : List ℕ). drop (length its) z) (blank .zeros) ∙ drop-zeros (length its) (length out) in
         record { answer = rw (q, r-is) refl; output = rw q (t ∙ ap (λ (z : List ℕ). its ++ z) zeros) }

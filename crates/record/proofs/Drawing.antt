@@ -1,9 +1,11 @@
 -- The field's tree on the slate, with its boxes: the slate's separation and sides are the field's, so its pairs are too. Assumes nothing.
 use mathlib.Core.Path.{_≡_, sym, ap, _∙_}
 use mathlib.Core.List.{List, map}
-use Prim.Native.Nat.{ℕ, _-_, _≤_, _<_}
+use Prim.Native.Nat.{ℕ, _*_, _-_, _≤_, _<_}
 use native.Mathlib.Omega.{arith}
 use lib.ListN.{length}
+use Rattle.words.specs.Area.{word}
+use Rattle.slate.specs.Columns.{HOLES}
 use Rattle.slate.specs.Slate.{Grid}
 use Rattle.paper.specs.Field.{holesAt}
 use Rattle.paper.specs.Tree.{Tree, leaf, fork, number, under, boxAt, treeOf}
@@ -20,12 +22,13 @@ use Rattle.theory.proofs.Pairing.{Regular}
 use Rattle.theory.proofs.PairsAgree.{pairs-agree}
 use Rattle.theory.proofs.FieldPairs.{regular}
 use Rattle.field.specs.Boxes.{HolesIn, boxOn}
+use Rattle.field.proofs.Boxes.{box-high}
 use Rattle.tree.specs.Standing.{treeOn, Stands}
 use Rattle.tree.specs.Steps.{Summed}
 use Rattle.tree.specs.Planting.{FieldIn, Grown}
 use Rattle.tree.proofs.Views.{on-holes, same-tree}
-use Rattle.pairs.specs.Listing.{farOn, longOn, grownOn}
-use Rattle.record.specs.Building.{Buildable, Drawn, Made}
+use Rattle.pairs.specs.Listing.{farOn, longOn, grownOn, Sides, Boxes, SidesPut}
+use Rattle.record.specs.Building.{Buildable, Sized, Drawn, Made}
 use Rattle.paper.specs.declared.Wrote.{Wrote}
 
 module _ {c : List ℕ} {a b n : ℕ} (f : Buildable c a b n) (w : List ℕ) (grid : Grid w) (nodes : treeOn w n .nodes ≡ entries (treeOf (holesAt 2 c 0 n))) where
@@ -55,7 +58,7 @@ module _ {c : List ℕ} {a b n : ℕ} (f : Buildable c a b n) (w : List ℕ) (gr
   tree-is : grownOn w n ≡ treeOf (holesAt 2 c 0 n)
   tree-is = grow-back (treeOn w n) (treeOf (holesAt 2 c 0 n)) met all-leaves nodes few-nodes
 
-  module _ (boxes : (s : Tree) → Sub s (treeOf (holesAt 2 c 0 n)) → boxOn w 2 (number s) ≡ boxAt (holesAt 2 c 0 n) (under s)) where
+  module _ (boxes : (s : Tree) → Sub s (treeOf (holesAt 2 c 0 n)) → boxOn w 2 (number s) ≡ boxAt (holesAt 2 c 0 n) (under s)) (sides : Sides w 2 n) where
     far-is : (A B : Tree) → Sub A (treeOf (holesAt 2 c 0 n)) → Sub B (treeOf (holesAt 2 c 0 n)) → farOn w 2 a b A B ≡ far (holesAt 2 c 0 n) a b A B
     unfolding farOn far
     far-is A B p q = rw (boxes A p, boxes B q)
@@ -82,6 +85,7 @@ module _ {c : List ℕ} {a b n : ℕ} (f : Buildable c a b n) (w : List ℕ) (gr
             stands = stands;
             axes = record { some = omega arith; few = omega arith };
             ratio = f .ratio;
+            sides = sides;
             met = rw tree-is met;
             regular = rw tree-is regular-on;
           };
@@ -89,17 +93,31 @@ module _ {c : List ℕ} {a b n : ℕ} (f : Buildable c a b n) (w : List ℕ) (gr
           pairs = rw tree-is (ap (map numbers) (pairs-agree (farOn w 2 a b) (far (holesAt 2 c 0 n) a b) (longOn w 2) (side (holesAt 2 c 0 n)) regular-on far-is side-is));
         }
 
--- summed up: the tree is still there, and each node's box is that of its holes
+-- summed up and with its sides written: the tree is still there, and each node's box is that of its holes
 module _ {c : List ℕ} {a b n : ℕ} (f : Buildable c a b n) {old mid : List ℕ} (grid : Grid old)
     (g : Grown (holesAt 2 c 0 n) n old mid) where
   pub planted : Stands mid n
   planted = stands f mid (omega (arith, g .len)) (g .nodes)
 
-  pub summed-up : {new : List ℕ} → Summed c 2 n mid new → Drawn c a b n new
-  summed-up {new} s =
-      let e = same-tree new mid n (λ k l. s .rest _ (λ x y. omega arith) (omega arith)) (λ k l. s .rest _ (λ x y. omega arith) (omega arith)) in
-      drawn f new (omega (arith, s .len, g .len)) (ap (λ (v : Rattle.paper.specs.Record.View). v .nodes) e ∙ g .nodes)
-      (λ t q. s .box (number t) (node-there t q) ∙ ap (boxAt (holesAt 2 c 0 n)) (under-is t q))
+  -- an answer speaks of the work area's length alone, which no step changes
+  pub made-as : {last out out′ : List ℕ} {r : Wrote} → Sized c n mid last → Made c a b (length last) out out′ r → Made c a b (length old) out out′ r
+  made-as {last} s m =
+      let e : length last ≡ length old = s .sides .kept .len ∙ s .summed .len ∙ g .len in
+      rw e at m
+
+  pub sided : {last : List ℕ} → Sized c n mid last → Drawn c a b n last
+  sided {last} z =
+      let s = z .summed in
+      let p = z .sides in
+      let keeps : (i : ℕ) → i < 2_048 * HOLES → word last i ≡ word mid i =
+      λ i l. p .kept .rest i (λ x y. omega arith) ∙ s .rest i (λ x y. omega arith) (omega arith) in
+      let e = same-tree last mid n (λ k l. keeps _ (omega arith)) (λ k l. keeps _ (omega arith)) in
+      drawn f last (omega (arith, p .kept .len, s .len, g .len)) (ap (λ (v : Rattle.paper.specs.Record.View). v .nodes) e ∙ g .nodes)
+      (λ t q.
+      box-high last (z .between) 2 (number t) (λ i l. p .kept .rest i (λ x y. omega arith))
+      ∙ s .box (number t) (node-there t q)
+      ∙ ap (boxAt (holesAt 2 c 0 n)) (under-is t q))
+      (p .sides)
     where
       under-is : (t : Tree) → Sub t (treeOf (holesAt 2 c 0 n)) → Rattle.paper.specs.Rules.under-node (treeOn mid n) (number t) ≡ under t
       under-is t q =
@@ -115,14 +133,22 @@ module _ {c : List ℕ} {a b n : ℕ} (f : Buildable c a b n) {old mid : List �
                 (g .nodes) (few-nodes f mid (omega (arith, g .len)) (g .nodes)) t q,
           )
 
--- what the steps ask of a field
+-- what the steps ask
+pub boxes-there : {c w new : List ℕ} {n : ℕ} → Stands w n → Summed c 2 n w new → Boxes new 2 n
+boxes-there t s =
+    record {
+      grid = omega (arith, t .grid, s .len);
+      axes = record { some = omega arith; few = omega arith };
+      some = t .some;
+      few = t .few;
+    }
+
+pub sized-up : {c w mid new : List ℕ} {n : ℕ} → Summed c 2 n w mid → SidesPut 2 n mid new → Sized c n w new
+sized-up {mid} s p = record { between = mid; summed = s; sides = p }
+
 module _ {c : List ℕ} {a b n : ℕ} (f : Buildable c a b n) where
   pub holes-in-list : HolesIn c 2 n
   holes-in-list = record { axes = record { some = omega arith; few = omega arith }; few = f .few; all = omega (arith, f .even) }
 
   pub field-in-list : FieldIn c 2 n
   field-in-list = record { holes = holes-in-list; some = f .some; distinct = f .distinct }
-
--- an answer speaks of the work area's length alone
-pub made-as : {c out out′ : List ℕ} {a b v w : ℕ} {r : Wrote} → Made c a b v out out′ r → v ≡ w → Made c a b w out out′ r
-made-as m e = rw e at m

@@ -15,7 +15,8 @@ use Rattle.paper.specs.Answers.{wrote, counted, left-in}
 use Rattle.paper.specs.declared.Wrote.{Wrote}
 use Rattle.theory.proofs.Fields.{Distinct}
 use Rattle.tree.specs.Standing.{treeOn}
-use Rattle.pairs.specs.Listing.{Listable, pairsOn}
+use Rattle.tree.specs.Steps.{Summed}
+use Rattle.pairs.specs.Listing.{SidesPut, Listable, pairsOn}
 
 -- n holes at different places and a ratio in range
 pub record Buildable (c : List ℕ) (a b n : ℕ) : Type 0 where
@@ -34,6 +35,12 @@ pub record Blank (out : List ℕ) : Type 0 where
 pub record Made (c : List ℕ) (a b w : ℕ) (out out′ : List ℕ) (r : Wrote) : Type 0 where
   pub answer : wrote r ≡ counted (build c a b w (length out))
   pub output : out′ ≡ left-in (length out) (build c a b w (length out))
+
+-- a tree that was summed up, and then its sides were put beside it
+pub record Sized (c : List ℕ) (n : ℕ) (old new : List ℕ) : Type 0 where
+  pub between : List ℕ
+  pub summed : Summed c 2 n old between
+  pub sides : SidesPut 2 n between new
 
 -- the field's tree stands on the slate with its boxes, so that its pairs can be listed
 pub record Drawn (c : List ℕ) (a b n : ℕ) (w : List ℕ) : Type 0 where

@@ -1,7 +1,7 @@
 // Records: cutting one into its parts, inspecting it, checking it, and handing back its sections.
 // Only `cut` knows how the bytes are laid out and that holes have two coordinates; what comes after it works on the parts.
 ghost use mathlib.Core.Path.{_≡_};
-ghost use Prim.Native.Nat.{_+_, _*_, _<_, _≤_};
+ghost use Prim.Native.Nat.{_+_, _*_, _-_, _/_, _<_, _≤_};
 ghost use lib.ListN.{length};
 ghost use Rattle.slate.specs.Columns.{FIRST, SECOND};
 ghost use Rattle.slate.specs.Slate.{cell, Grid};
@@ -10,10 +10,11 @@ ghost use Rattle.paper.specs.Record.{holes-part, nodes-part, pairs-part, two-nu
 ghost use Rattle.paper.specs.Answers.{PartAt, Builds, Checks, HandsBack};
 ghost use Rattle.record.specs.Cutting.{CutSays, Begun, PartsOf, holes-slice, nodes-slice, pairs-slice};
 ghost use Rattle.record.specs.Inspecting.{InspectSays, TakeSays, Measured, Located};
-ghost use Rattle.words.specs.Words.{Written};
+ghost use Rattle.words.specs.Words.{bytes, Written};
 ghost use Rattle.paper.specs.Lists.{joined};
-ghost use Rattle.tree.specs.Standing.{treeOn};
-ghost use Rattle.record.specs.Building.{HeadFits, NodesFit, head, node-bytes, front, Buildable, Drawn, Blank, Made, FrontFits};
+ghost use Rattle.tree.specs.Standing.{treeOn, Stands};
+ghost use Rattle.record.specs.Building.{HeadFits, NodesFit, head, node-bytes, front, Buildable, Sized, Drawn, Blank, Made, FrontFits};
+ghost use Rattle.field.specs.Boxes.{HolesIn};
 use cover::Two;
 use field::Found;
 use paper::Checked;
@@ -321,14 +322,23 @@ fn put_nodes(out: &mut [u8], work: &[u8], n: usize)
     put_entries(out, work, n);
 }
 
-// Writes all that stands before the pairs: the ratio, the holes, the nodes, and that there are m pairs.
-fn put_front(holes: &[u8], a: usize, b: usize, n: usize, m: usize, work: &[u8], out: &mut [u8])
+// Writes how many pairs a record of n holes has that is `end` bytes long.
+fn put_count(out: &mut [u8], n: usize, end: usize)
+    requires { ⌜ (n ≤ 1024) × (6 + 12 * n ≤ end) × (6 + 12 * n ≤ length (now out)) ⌝ }
+    ensures { λ _. ⌜ Written (now (out .entry)) (now (out .exit)) (2 + 12 * n) (bytes 4 ((end - (6 + 12 * n)) / 4)) ⌝ }
+{
+    words::put32(out, 2 + 12 * n, (end - (6 + 12 * n)) / 4);
+}
+
+// Writes all that stands before the pairs of a record that is `end` bytes long: the ratio, the holes, the nodes, and the pair count.
+fn put_front(holes: &[u8], a: usize, b: usize, n: usize, end: usize, work: &[u8], out: &mut [u8])
     requires { ⌜ FrontFits (now holes) a b n (now work) (now out) ⌝ }
-    ensures { λ _. ⌜ Written (now (out .entry)) (now (out .exit)) 0 (front (now (holes .entry)) a b n m (now (work .entry))) ⌝ }
+    requires { ⌜ 6 + 12 * n ≤ end ⌝ }
+    ensures { λ _. ⌜ Written (now (out .entry)) (now (out .exit)) 0 (front (now (holes .entry)) a b n ((end - (6 + 12 * n)) / 4) (now (work .entry))) ⌝ }
 {
     put_head(out, holes, a, b, n);
     put_nodes(out, work, n);
-    words::put32(out, 2 + 12 * n, m);
+    put_count(out, n, end);
 }
 
 // Writes the record of the field whose tree is on the slate. The pairs are listed first, as many as fit: how far they go is the record's length,
@@ -344,8 +354,18 @@ fn write_record(holes: &[u8], a: usize, b: usize, n: usize, work: &[u8], out: &m
         words::zero(out);
         return Wrote::Refused(Refusal::Room(end as u64));
     }
-    put_front(holes, a, b, n, (end - (6 + 12 * n)) / 4, work, out);
+    put_front(holes, a, b, n, end, work, out);
     Wrote::Bytes(end as u64)
+}
+
+// Sums the tree on the slate up, and puts the longest side of each node beside it.
+fn size_up(work: &mut [u8], holes: &[u8], n: usize)
+    requires { ⌜ Stands (now work) n ⌝ }
+    requires { ⌜ HolesIn (now holes) 2 n ⌝ }
+    ensures { λ _. ⌜ Sized (now (holes .entry)) n (now (work .entry)) (now (work .exit)) ⌝ }
+{
+    tree::sum_up(work, holes, 2, n);
+    pairs::put_sides(work, 2, n);
 }
 
 // Cuts the field into its tree, sums it up on the slate, and writes its record.
@@ -356,7 +376,7 @@ fn fill(holes: &[u8], a: usize, b: usize, n: usize, work: &mut [u8], out: &mut [
     ensures { λ r. ⌜ Made (now (holes .entry)) a b (length (now (work .entry))) (now (out .entry)) (now (out .exit)) r ⌝ }
 {
     tree::plant(work, holes, 2, n);
-    tree::sum_up(work, holes, 2, n);
+    size_up(work, holes, n);
     write_record(holes, a, b, n, work, out)
 }
 

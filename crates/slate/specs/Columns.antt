@@ -31,6 +31,9 @@ SCRATCH = 8
 abbrev pub TALLY : ℕ
 TALLY = 9
 
+abbrev pub SIDE : ℕ
+SIDE = 9
+
 -- axis x has LOW + 2 * x and HIGH + 2 * x
 abbrev pub LOW : ℕ
 LOW = 10

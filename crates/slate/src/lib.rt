@@ -33,6 +33,9 @@ pub const SCRATCH: usize = 8;
 
 pub const TALLY: usize = 9;
 
+// The longest side of a node's box, while pairs are listed; tallies are not taken then.
+pub const SIDE: usize = 9;
+
 // The low end of a node's box on axis 0; axis x has LOW + 2 * x, for up to three axes.
 pub const LOW: usize = 10;
 

@@ -16,7 +16,6 @@ use Rattle.pairs.proofs.split.Reads as split
 use Rattle.pairs.proofs.split.Kinds as split-kinds
 use Rattle.pairs.proofs.+compare+split.Lts-split as split-lts
 use Rattle.pairs.proofs.apart.Reads as apart
-use Rattle.field.proofs.longest_side.Reads as longest-side
 use Rattle.pairs.proofs.put_pair.Reads as put-pair
 use Rattle.slate.proofs.cell.Reads as cell
 use Rattle.pairs.proofs.+compare+split.{statement}
@@ -51,8 +50,6 @@ module _ (t : ℕ) where
 
   abbrev split-calls : split-lts.Claims
   split-calls = (
-    longest-side.Asked,
-    longest-side.Learnt,
     cell.Asked,
     cell.Learnt,
     and 2 compare-kinds.ps (falls 2 compare-kinds.ps _<_ μ-compare t) compare.Pre,
@@ -82,33 +79,37 @@ module _ (t : ℕ) where
   compare-returns-2 : compare-lts.Need-returns-2 compare-calls compare-at compare.Post
   compare-returns-2 c = c .before .before .split .ensures
 
-  split-side : split-lts.Need-longest-side-requires split-calls split-at split.Post
-  split-side c κs = node-right (c .before .before .pre .1 .0 .faces)
+  split-side : split-lts.Need-cell-requires split-calls split-at split.Post
+  split-side c κs =
+      let p = node-right (c .before .before .pre .1 .0 .faces) in
+      record { grid = p .grid; column = omega arith; row = p .row }
 
-  split-side-2 : split-lts.Need-longest-side-requires-2 split-calls split-at split.Post
-  split-side-2 c κs = node-left (c .before .before .before .pre .1 .0 .faces)
+  split-side-2 : split-lts.Need-cell-requires-2 split-calls split-at split.Post
+  split-side-2 c κs =
+      let p = node-left (c .before .before .before .pre .1 .0 .faces) in
+      record { grid = p .grid; column = omega arith; row = p .row }
 
   -- node i is split
 
-  split-cell : split-lts.Need-cell-requires split-calls split-at split.Post
+  split-cell : split-lts.Need-cell-requires-3 split-calls split-at split.Post
   split-cell c κs =
       let p = node-left (c .before .before .before .before .before .pre .1 .0 .faces) in
       record { grid = p .grid; column = omega arith; row = p .row }
 
-  split-cell-2 : split-lts.Need-cell-requires-2 split-calls split-at split.Post
+  split-cell-2 : split-lts.Need-cell-requires-4 split-calls split-at split.Post
   split-cell-2 c κs =
       let p = node-left (c .before .before .before .before .before .before .pre .1 .0 .faces) in
       record { grid = p .grid; column = omega arith; row = p .row }
 
-  first-parts : (c : split-lts.After-cell2 split-calls split-at split.Post)
+  first-parts : (c : split-lts.After-cell4 split-calls split-at split.Post)
       → let s = c .before .before .before .before .before .before .before in
       Parts (s .args .work .now) (s .args .d) (s .args .a) (s .args .b) (s .args .n) (s .args .i) (s .args .j)
-      (c .before .cell .result) (s .args .j) (c .cell2 .result) (s .args .j)
+      (c .before .cell3 .result) (s .args .j) (c .cell4 .result) (s .args .j)
   first-parts c =
       let s = c .before .before .before .before .before .before .before in
       split-first (s .pre .1 .0 .faces) (s .pre .1 .1)
-      (c .before .before .before .before .longest-side .ensures) (c .before .before .before .longest-side2 .ensures)
-      (omega (arith, c .before .before .if1 .taken)) (c .before .cell .ensures) (c .cell2 .ensures)
+      (c .before .before .before .before .cell .ensures) (c .before .before .before .cell2 .ensures)
+      (omega (arith, c .before .before .if1 .taken)) (c .before .cell3 .ensures) (c .cell4 .ensures)
 
   split-compare : split-lts.Need-compare-requires split-calls split-at split.Post
   split-compare c κs =
@@ -135,25 +136,25 @@ module _ (t : ℕ) where
 
   -- node j is split
 
-  split-cell-3 : split-lts.Need-cell-requires-3 split-calls split-at split.Post
+  split-cell-3 : split-lts.Need-cell-requires-5 split-calls split-at split.Post
   split-cell-3 c κs =
       let p = node-right (c .before .before .before .before .before .pre .1 .0 .faces) in
       record { grid = p .grid; column = omega arith; row = p .row }
 
-  split-cell-4 : split-lts.Need-cell-requires-4 split-calls split-at split.Post
+  split-cell-4 : split-lts.Need-cell-requires-6 split-calls split-at split.Post
   split-cell-4 c κs =
       let p = node-right (c .before .before .before .before .before .before .pre .1 .0 .faces) in
       record { grid = p .grid; column = omega arith; row = p .row }
 
-  second-parts : (c : split-lts.After-cell4 split-calls split-at split.Post)
+  second-parts : (c : split-lts.After-cell6 split-calls split-at split.Post)
       → let s = c .before .before .before .before .before .before .before in
       Parts (s .args .work .now) (s .args .d) (s .args .a) (s .args .b) (s .args .n) (s .args .i) (s .args .j)
-      (s .args .i) (c .before .cell3 .result) (s .args .i) (c .cell4 .result)
+      (s .args .i) (c .before .cell5 .result) (s .args .i) (c .cell6 .result)
   second-parts c =
       let s = c .before .before .before .before .before .before .before in
       split-second (s .pre .1 .0 .faces) (s .pre .1 .1)
-      (c .before .before .before .before .longest-side .ensures) (c .before .before .before .longest-side2 .ensures)
-      (omega (arith, c .before .before .if1 .left)) (c .before .cell3 .ensures) (c .cell4 .ensures)
+      (c .before .before .before .before .cell .ensures) (c .before .before .before .cell2 .ensures)
+      (omega (arith, c .before .before .if1 .left)) (c .before .cell5 .ensures) (c .cell6 .ensures)
 
   split-compare-3 : split-lts.Need-compare-requires-3 split-calls split-at split.Post
   split-compare-3 c κs =

@@ -1,6 +1,6 @@
--- The tree is planted and summed up, and then its record is written. Assumes nothing.
+-- The tree is planted and sized up, and then its record is written. Assumes nothing.
 use borrow.Author.Needs.{needs}
-use Rattle.record.proofs.Drawing.{planted, summed-up, holes-in-list, field-in-list, made-as}
+use Rattle.record.proofs.Drawing.{planted, sided, holes-in-list, field-in-list, made-as}
 use Rattle.record.proofs.fill.Statement.{statement}
 use Rattle.record.proofs.fill.Tie as tie
 
@@ -9,11 +9,11 @@ ruleset all = (needs)
 plant-requires : tie.Need-plant-requires
 plant-requires c κs = (search all, search field-in-list)
 
-sum-up-requires : tie.Need-sum-up-requires
-sum-up-requires c κs = (search (planted, needs), search holes-in-list)
+size-up-requires : tie.Need-size-up-requires
+size-up-requires c κs = (search (planted, needs), search holes-in-list)
 
 write-record-requires : tie.Need-write-record-requires
-write-record-requires c κs = (search all, (search (summed-up, needs), search all))
+write-record-requires c κs = (search all, (search (sided, needs), search all))
 
 same-length : tie.Need-same-length
 same-length c = search all
@@ -25,4 +25,4 @@ returns : tie.Need-returns
 returns c = search (made-as, needs)
 
 pub fill-spec : {M : Type 1} → statement M
-fill-spec = tie.close (tie.spec plant-requires sum-up-requires write-record-requires same-length same-length-2 returns)
+fill-spec = tie.close (tie.spec plant-requires size-up-requires write-record-requires same-length same-length-2 returns)

@@ -1,7 +1,7 @@
 -- The pairs say how long the record is; the front is written before them where there is room. Assumes nothing.
 use Prim.Native.Nat.{_-_}
 use borrow.Author.Needs.{needs}
-use Rattle.record.proofs.BuildAnswers.{no-room, record-made}
+use Rattle.record.proofs.BuildAnswers.{no-room, pairs-end, record-made}
 use Rattle.record.proofs.write_record.Statement.{statement}
 use Rattle.record.proofs.write_record.Tie as tie
 
@@ -25,17 +25,8 @@ same-length c = search all
 returns : tie.Need-returns
 returns c = search no-room
 
-mul-put-front : tie.Need-mul-put-front
-mul-put-front c = search all
-
-add-put-front : tie.Need-add-put-front
-add-put-front c = search all
-
-sub-put-front : tie.Need-sub-put-front
-sub-put-front c = search all
-
 put-front-requires : tie.Need-put-front-requires
-put-front-requires c κs = search all
+put-front-requires c κs = (search all, search (pairs-end, needs))
 
 same-length-2 : tie.Need-same-length-2
 same-length-2 c = search all
@@ -44,4 +35,4 @@ returns-2 : tie.Need-returns-2
 returns-2 c = search record-made
 
 pub write-record-spec : {M : Type 1} → statement M
-write-record-spec = tie.close (tie.spec mul-list-pairs add-list-pairs list-pairs-requires zero-requires same-length returns mul-put-front add-put-front sub-put-front put-front-requires same-length-2 returns-2)
+write-record-spec = tie.close (tie.spec mul-list-pairs add-list-pairs list-pairs-requires zero-requires same-length returns put-front-requires same-length-2 returns-2)
