@@ -141,15 +141,25 @@ second-table =
     -- no holes and a bad ratio: the builder gives 2 before 4, the checker 4 before 2
     ∷ (builder [] 0 1, 0 ∷ 2 ∷ 0 ∷ [])
     ∷ (checker (0 ∷ 1 ∷ 0 ∷ 0 ∷ []), 0 ∷ 4 ∷ 0 ∷ [])
-    -- a distance of exactly the pitch is enough
+    -- a distance of exactly the pitch is enough; the ratio must be above 2, but for one hole
     ∷ (pitching p1-record 10, 1 ∷ 1 ∷ [])
+    ∷ (pitching p1-record 11, 1 ∷ 0 ∷ [])
+    ∷ (pitching (record-of (at 0 0 ∷ at 10 0 ∷ []) 2 1) 1, 0 ∷ 16 ∷ 513 ∷ [])
+    ∷ (pitching (record-of (at 7 9 ∷ []) 1 1) 9, 1 ∷ 1 ∷ [])
+    -- one hole is refused before the ratio
+    ∷ (closely (record-of (at 7 9 ∷ []) 1 1), 0 ∷ 15 ∷ 0 ∷ [])
     -- links: the smaller number first, whichever side it is on
     ∷ (linking (record-of (at 10 0 ∷ at 0 0 ∷ []) 5 1), 1 ∷ 0 ∷ 0 ∷ 0 ∷ 1 ∷ [])
+    -- and the ratio must be above 4
+    ∷ (linking (record-of (at 10 0 ∷ at 0 0 ∷ []) 4 1), 0 ∷ 16 ∷ 1_025 ∷ [])
     -- the pair list stands after its count
     ∷ (pair-list p1-record, 30 ∷ 4 ∷ [])
     -- the program's example, and one hole
     ∷ (program p1-record, text "points 2\npairs 1\nclosest 0 1 100\n")
     ∷ (program (record-of (at 7 9 ∷ []) 1 1), text "points 1\npairs 0\nclosest none\n")
+    -- two holes at the ratio 2, and nothing at all
+    ∷ (program (record-of (at 0 0 ∷ at 10 0 ∷ []) 2 1), text "points 2\npairs 1\nclosest low\n")
+    ∷ (program [], text "refused 8 4\n")
     ∷ []
 
 answers : List (Sheet × List ℕ) → List (List ℕ)

@@ -1,7 +1,7 @@
 // The questions over a taken record: the closest pair, the pitch test and the links.
 // Each inspects the record once and answers from what then stands on the slate; every call ends with the slate wiped.
 ghost use mathlib.Core.Path.{_≡_};
-ghost use Prim.Native.Nat.{_*_, _<_, min};
+ghost use Prim.Native.Nat.{_*_, _<_};
 ghost use lib.Dec.{leb};
 ghost use lib.ListN.{length};
 ghost use Rattle.words.specs.Words.{Written};
@@ -86,13 +86,6 @@ fn pair_key(work: &[u8], list: &[u8], k: usize) -> usize
     key_of(work, p, q)
 }
 
-// The lesser of two numbers.
-fn lesser(x: usize, y: usize) -> usize
-    ensures { λ r. ⌜ r ≡ min x y ⌝ }
-{
-    if x < y { x } else { y }
-}
-
 // The least key of m pairs.
 fn least_key(work: &[u8], list: &[u8], m: usize) -> usize
     requires { ⌜ PairsThere (now work) (now list) m ⌝ }
@@ -100,7 +93,7 @@ fn least_key(work: &[u8], list: &[u8], m: usize) -> usize
 {
     let mut least = NO_KEY;
     for k in 0..m {
-        least = lesser(least, pair_key(work, list, k));
+        least = field::lesser(least, pair_key(work, list, k));
     }
     least
 }
