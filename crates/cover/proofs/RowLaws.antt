@@ -10,7 +10,7 @@ use native.Mathlib.Omega.{arith}
 use lib.Dec.{eqb, leb, ltb}
 use borrow.Author.Tests.{eqb-true, eqb-false, lt-ltb, le-ltb, leb-true, leb-false, ltb-true, ltb-false}
 use Rattle.slate.specs.Slate.{cell, wide, Kept, WideHeld, WideSet}
-use Rattle.slate.proofs.Frames.{kept-none, kept-wider, kept-both, kept-cell}
+use Rattle.slate.proofs.Frames.{kept-none, kept-wider, kept-both, kept-two}
 use Rattle.paper.proofs.ListLaws.{cases}
 use Rattle.theory.specs.Trees.{one-if}
 use Rattle.theory.proofs.Sums.{sum, sum-same, sum-none}
@@ -36,14 +36,15 @@ pub upto-kept : {old new : List ℕ} {lo hi : ℕ} → Kept old new lo hi → (c
     → upto new c n ≡ upto old c n
 unfolding upto
 upto-kept {old} {new} p c n h =
-    sum-same (wide new c) (wide old c) n (λ k l. omega (arith, same (2 * k) (omega arith), same (2 * k + 1) (omega arith)))
-  where
-    same : (k : ℕ) → k < 2 * n → cell new c k ≡ cell old c k
-    same k l = kept-cell p c k (λ x y. h (omega arith) (omega arith))
+    sum-same (wide new c) (wide old c) n (λ k l. kept-two p (2_048 * c + 2 * k) (λ x y. h (omega arith) (omega arith)))
 
 pub upto-zero : (w : List ℕ) (c n : ℕ) → ((k : ℕ) → k < 2 * n → cell w c k ≡ 0) → (r : ℕ) → r ≤ n → upto w c r ≡ 0
 unfolding upto
-upto-zero w c n h r l = sum-none (wide w c) r (λ k b. omega (arith, h (2 * k) (omega arith), h (2 * k + 1) (omega arith)))
+upto-zero w c n h r l =
+    sum-none (wide w c) r
+    (λ k b.
+    let e : 2_048 * c + (2 * k + 1) ≡ 2_048 * c + 2 * k + 1 = omega arith in
+    omega (arith, h (2 * k) (omega arith), rw e at (h (2 * k + 1) (omega arith))))
 
 pub counting-kept : {old new : List ℕ} {lo hi c n : ℕ} → Kept old new lo hi → Counting old c n → (lo < 2_048 * c + 2 * n → 2_048 * c < hi → ⊥)
     → Counting new c n
@@ -87,7 +88,7 @@ one-more {w} {w′} {c} {n} {k} {v} h s l =
       kept = kept-wider (s .kept) (omega arith) (omega arith);
       sums = λ r b.
           sum-more (wide w c) (wide w′ c) k (omega (arith, h .is, s .here))
-          (λ i d. omega (arith, kept-cell (s .kept) c (2 * i) (omega arith), kept-cell (s .kept) c (2 * i + 1) (omega arith)))
+          (λ i d. kept-two (s .kept) (2_048 * c + 2 * i) (omega arith))
           r;
     }
 

@@ -172,15 +172,6 @@ pub record PairsMarking (w ps : List ℕ) (m start end : ℕ) : Type 0 where
 
 -- ---- clearing, judging, and all of it
 
--- there are n words from word i on; they are 0, and beside them nothing has changed
-pub record WordsIn (w : List ℕ) (i n : ℕ) : Type 0 where
-  pub grid : Grid w
-  pub there : i + n ≤ 32_768
-
-pub record WordsCleared (i n : ℕ) (old new : List ℕ) : Type 0 where
-  pub kept : Kept old new i (i + n)
-  pub zero : (k : ℕ) → k < n → word new (i + k) ≡ 0
-
 -- every row of the block is kept, and says 0
 pub record Blank (start end : ℕ) (old new : List ℕ) : Type 0 where
   pub kept : Kept old new (2_048 * MARKS) (2_048 * SKIP + end)

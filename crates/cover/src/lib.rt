@@ -7,7 +7,7 @@ ghost use Rattle.cover.specs.Rows.{pairAt, spanning, meeting, Open, Span
 ghost use Rattle.cover.specs.Rows.{Uncounted, Tallying, Tallied, Spreading, Opening, Counted, Spread, Row};
 ghost use Rattle.cover.specs.Bits.{between};
 ghost use Rattle.cover.specs.Marks.{BitsIn, BitsSet, BitsFull, RunIn, StopsAt, RunSet, RunFull, RowIn, RowsIn, RanksIn, BlockIn};
-ghost use Rattle.cover.specs.Marks.{Marked, RowsMarked, Gone, Passed, Advanced, SpansIn, PairMarking, PairsMarking, WordsIn, WordsCleared};
+ghost use Rattle.cover.specs.Marks.{Marked, RowsMarked, Gone, Passed, Advanced, SpansIn, PairMarking, PairsMarking};
 ghost use Rattle.cover.specs.Marks.{crossing, spanned, by-pair, by-pairs, Block, Blank, Judging, JudgingAll, Judged, Sifted, Goods};
 
 // What a search for two holes finds.
@@ -327,23 +327,13 @@ fn judge_rows(work: &mut [u8], n: usize, start: usize, end: usize)
     }
 }
 
-// Sets the n words from word i on to 0.
-fn clear_words(work: &mut [u8], i: usize, n: usize)
-    requires { ⌜ WordsIn (now work) i n ⌝ }
-    ensures { λ _. ⌜ WordsCleared i n (now (work .entry)) (now (work .exit)) ⌝ }
-{
-    for k in 0..n {
-        words::save(work, i + k, 0);
-    }
-}
-
 // Every row of a block is kept, and nothing is marked in it.
 fn empty_rows(work: &mut [u8], start: usize, end: usize)
     requires { ⌜ Block (now work) start end ⌝ }
     ensures { λ _. ⌜ Blank start end (now (work .entry)) (now (work .exit)) ⌝ }
 {
-    clear_words(work, 2048 * slate::MARKS, 64 * (end - start));
-    clear_words(work, 2048 * slate::SKIP + start, end - start);
+    slate::clear_words(work, 2048 * slate::MARKS, 64 * (end - start));
+    slate::clear_words(work, 2048 * slate::SKIP + start, end - start);
 }
 
 // Keeps of a block only ranks whose hole is covered exactly once with every other hole.

@@ -3,3 +3,4 @@ pub mod Axis
 pub mod Places
 pub mod Chains
 pub mod Longest
+pub mod Reaching

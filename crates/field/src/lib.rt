@@ -14,6 +14,7 @@ ghost use Rattle.paper.specs.Separation.{G, D, separated};
 ghost use Rattle.paper.specs.Rules.{repeats};
 ghost use Rattle.field.specs.Boxes.{HolesIn, HoleIn, NodeOn, Boxed, sideOn, boxOn};
 ghost use Rattle.field.specs.Buckets.{Bucketed, Chained, Pushed, Searched};
+ghost use Rattle.field.specs.Reach.{reach};
 ghost use Rattle.field.specs.Sides.{side, sideAround, twice-centre, gapOn, SideIn, Sided, Squared};
 
 // What a search over numbers finds: the least with a property.
@@ -287,6 +288,17 @@ pub fn is_separated(work: &[u8], d: usize, a: usize, b: usize, j: usize, k: usiz
     let far = distance(work, d, j, k);
     let size = greater(girth(work, d, j), girth(work, d, k));
     wide_enough(a, b, size, far)
+}
+
+// The reach of node k at the ratio a/b: the least D at which it is separated from a node of no larger G.
+pub fn reach(work: &[u8], d: usize, a: usize, b: usize, k: usize) -> usize
+    requires { ⌜ NodeOn (now work) d k ⌝ }
+    requires { ⌜ Ratio a b ⌝ }
+    ensures { λ r. ⌜ (r ≡ reach a b (boxOn (now (work .entry)) d k)) × (r < 562949953421312) ⌝ }
+{
+    let size = weighed(2 * b + a, girth(work, d, k));
+    let parts = squared(b);
+    greater(1, (size + (parts - 1)) / parts)
 }
 
 // Makes node k's side on axis x the smallest that holds c too.

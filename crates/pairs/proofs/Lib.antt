@@ -2,4 +2,4 @@ pub mod PairTurns
 pub mod Laying
 pub mod Parted
 pub mod InOrder
-pub mod SideTurns
+pub mod ShapeTurns

@@ -1,30 +1,30 @@
 -- What a comparison comes to. Nodes that face each other and are separated are one pair; else the node with the longer side is no leaf, as a leaf is
 -- never split, and the pairs are those of its first part against the other node and then those of its second. Assumes nothing.
-use mathlib.Core.Path.{_≡_, sym, ap, _∙_}
-use mathlib.Core.Bool.{Bool, true, false, true≢false}
+use mathlib.Core.Path.{_≡_, ap, _∙_}
+use mathlib.Core.Bool.{true, false}
 use mathlib.Core.List.{List, [], _∷_, _++_, map-append}
 use Prim.Native.Nat.{ℕ, _+_, _≤_, _<_}
 use native.Mathlib.Omega.{arith}
-use lib.Dec.{eqb}
+use lib.Dec.{leb}
 use lib.ListN.{length, length-append}
-use borrow.Author.Tests.{eqb-true}
-use Rattle.slate.specs.Columns.{FIRST, SECOND, SIDE}
-use Rattle.slate.specs.Slate.{cell, Held}
+use Rattle.slate.specs.Columns.{FIRST, SECOND, REACH, SIDE}
+use Rattle.slate.specs.Slate.{cell, Held, LargeHeld}
 use Rattle.paper.specs.Tree.{Tree, leaf, fork, longest}
-use Rattle.paper.specs.Separation.{separated}
+use Rattle.paper.specs.Separation.{D, separated}
 use Rattle.paper.specs.Record.{nodes-of, leaf-mark}
 use Rattle.paper.specs.Rules.{node-count}
 use Rattle.field.specs.Boxes.{boxOn, NodeOn}
+use Rattle.field.proofs.Reaching.{first-reaches, second-asked}
 use Rattle.tree.specs.Standing.{treeOn, Stands}
 use Rattle.tree.proofs.Views.{on-holes, on-node}
 use Rattle.tree.proofs.Standing.{first-on, second-on}
 use Rattle.theory.specs.Trees.{leaves}
 use Rattle.theory.proofs.Grown.{number-grow, grow-leaf, grow-fork}
 use Rattle.theory.proofs.Subtrees.{whole, in-first, in-second, some-leaf, Facing, facing-down, facing-first}
-use Rattle.theory.proofs.Pairing.{two-leaves, never-split-first, never-split-second}
+use Rattle.theory.proofs.Pairing.{never-split-first, never-split-second}
 use Rattle.theory.proofs.PairRules.{rule-far, rule-first, rule-second}
 use Rattle.pairs.specs.Listing.{farOn, longOn, grownOn}
-use Rattle.pairs.specs.Comparing.{nodeOn, comparedOn, BothLeaves, Faces, Comparing, Laid}
+use Rattle.pairs.specs.Comparing.{nodeOn, comparedOn, Faces, Comparing, Laid}
 use Rattle.pairs.proofs.Laying.{laid-more}
 
 -- ---- a node of the tree on the slate
@@ -38,14 +38,6 @@ module _ {w : List ℕ} {n : ℕ} (s : Stands w n) (k : ℕ) (b : k < nodes-of n
 
   pub fork-on : (cell w FIRST k ≡ leaf-mark → ⊥) → nodeOn w n k ≡ fork k (nodeOn w n (cell w FIRST k)) (nodeOn w n (cell w SECOND k))
   fork-on f = rw (on-node w n k b) at (grow-fork (treeOn w n) (s .rules) k in-tree (rw (on-node w n k b) f))
-
--- ---- two leaves
-
-pub leaf-too : {w : List ℕ} {i j x y : ℕ} → Held w FIRST i x → x ≡ leaf-mark → Held w FIRST j y → BothLeaves w i j (eqb y leaf-mark)
-leaf-too {y} p e q = record { one = λ t. sym (p .is) ∙ e; other = λ t. sym (q .is) ∙ eqb-true y leaf-mark t }
-
-pub no-leaf : (w : List ℕ) (i j : ℕ) → BothLeaves w i j false
-no-leaf w i j = record { one = λ t. absurd (true≢false (sym t)); other = λ t. absurd (true≢false (sym t)) }
 
 -- ---- a comparison that comes to comparing x with y, and then z with u
 
@@ -78,13 +70,15 @@ module _ {w : List ℕ} {d a b n i j : ℕ} (f : Faces w d a b n i j) where
   pub node-right : NodeOn w d j
   node-right = on-slate (f .right)
 
-  -- two leaves are separated
-  pub leaves-apart : {t : Bool} → BothLeaves w i j t → t ≡ true → true ≡ separated a b (boxOn w d i) (boxOn w d j)
-  leaves-apart t e =
-      let A = leaf-on (f .listable .stands) i (f .left) (t .one e) in
-      let B = leaf-on (f .listable .stands) j (f .right) (t .other e) in
-      let face : Facing (grownOn w n) (leaf i (cell w SECOND i)) (leaf j (cell w SECOND j)) = rw (← A, ← B) (f .facing) in
-      sym (sym far-is ∙ rw (A, B) (two-leaves (farOn w d a b) (longOn w d) (f .listable .regular) i (cell w SECOND i) j (cell w SECOND j) face))
+  -- neither reaches further than D
+  module _ {x far : ℕ} (e : far ≡ D (boxOn w d i) (boxOn w d j)) (p : LargeHeld w REACH i x) where
+    pub near-first : far < x → false ≡ separated a b (boxOn w d i) (boxOn w d j)
+    near-first l = first-reaches (f .listable .ratio) (boxOn w d i) (boxOn w d j) (p .is ∙ f .listable .shapes i (f .left) .reach-is) e l
+
+    pub far-second : {y : ℕ} → x ≤ far → LargeHeld w REACH j y → leb y far ≡ separated a b (boxOn w d i) (boxOn w d j)
+    far-second l q =
+        second-asked (f .listable .ratio) (boxOn w d i) (boxOn w d j)
+        (p .is ∙ f .listable .shapes i (f .left) .reach-is) e (q .is ∙ f .listable .shapes j (f .right) .reach-is) l
 
   -- other nodes of the same tree that face each other
   others : {x y : ℕ} → x < nodes-of n → y < nodes-of n → Facing (grownOn w n) (nodeOn w n x) (nodeOn w n y) → Faces w d a b n x y
@@ -154,7 +148,7 @@ module _ {w : List ℕ} {d a b n i j : ℕ} (f : Faces w d a b n i j) where
 
 -- what SIDE holds is the longest side
 side-held : {w : List ℕ} {d a b n i j q : ℕ} → Faces w d a b n i j → (k : ℕ) → k < nodes-of n → Held w SIDE k q → q ≡ longest (boxOn w d k)
-side-held f k l s = s .is ∙ f .listable .sides .is k l
+side-held f k l s = s .is ∙ f .listable .shapes k l .side-is
 
 -- the same by what the code has found: the longest sides, and the two parts of the node that is split
 module _ {w : List ℕ} {d a b n i j p q x z : ℕ} (f : Faces w d a b n i j) (e : separated a b (boxOn w d i) (boxOn w d j) ≡ false)

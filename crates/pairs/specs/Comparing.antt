@@ -1,16 +1,13 @@
 -- Comparing two nodes of the tree on the slate, and listing what comes of it. Assumes nothing.
 use mathlib.Core.Path.{_≡_}
-use mathlib.Core.Bool.{Bool, true}
 use mathlib.Core.List.{List, [], _++_, map}
 use Prim.Native.Nat.{ℕ, zero, suc, _+_, _*_, _<_, _≤_}
 use lib.ListN.{length}
 use Rattle.words.specs.Words.{Written}
-use Rattle.slate.specs.Columns.{FIRST}
-use Rattle.slate.specs.Slate.{cell}
 use Rattle.paper.specs.Lists.{joined}
 use Rattle.paper.specs.Tree.{Tree, leaf, fork}
 use Rattle.paper.specs.Pairs.{numbers}
-use Rattle.paper.specs.Record.{nodes-of, leaf-mark, two-numbers}
+use Rattle.paper.specs.Record.{nodes-of, two-numbers}
 use Rattle.tree.specs.Standing.{treeOn}
 use Rattle.theory.specs.Trees.{grow}
 use Rattle.theory.proofs.Subtrees.{Facing}
@@ -44,11 +41,6 @@ pub record Faces (w : List ℕ) (d a b n i j : ℕ) : Type 0 where
   pub left : i < nodes-of n
   pub right : j < nodes-of n
   pub facing : Facing (grownOn w n) (nodeOn w n i) (nodeOn w n j)
-
--- r says of no two nodes that they are leaves unless they are
-pub record BothLeaves (w : List ℕ) (i j : ℕ) (r : Bool) : Type 0 where
-  pub one : r ≡ true → cell w FIRST i ≡ leaf-mark
-  pub other : r ≡ true → cell w FIRST j ≡ leaf-mark
 
 -- they may be compared at a place: the place after the pairs is no large number
 pub record Comparing (w : List ℕ) (d a b n i j at : ℕ) : Type 0 where

@@ -2,16 +2,15 @@
 ghost use mathlib.Core.Path.{_≡_};
 ghost use mathlib.Core.Bool.{false};
 ghost use mathlib.Core.List.{[], _∷_};
-ghost use Prim.Native.Nat.{_+_, _*_, _<_, _≤_};
+ghost use Prim.Native.Nat.{_+_, _*_, _≤_};
 ghost use Rattle.paper.specs.Field.{Ratio};
 ghost use Rattle.paper.specs.Record.{two-numbers-at};
 ghost use Rattle.field.specs.Found.{Finds};
 ghost use Rattle.paper.specs.Separation.{separated};
-ghost use Rattle.field.specs.Boxes.{Axes, boxOn};
+ghost use Rattle.field.specs.Boxes.{Axes, NodeOn, boxOn};
 ghost use Rattle.pairs.specs.Checking.{PairsIn, PairIn, PairOn, Judged};
-ghost use Rattle.pairs.specs.Listing.{Boxes, SidesPut, Listable, Listed, pairsOn};
-ghost use Rattle.pairs.specs.Comparing.{Laid, BothLeaves, Faces, Comparing, comparedOn, NodeListing, nodePairs};
-ghost use Rattle.slate.specs.Slate.{Grid};
+ghost use Rattle.pairs.specs.Listing.{Boxes, ShapePut, ShapesPut, Listable, Listed, pairsOn};
+ghost use Rattle.pairs.specs.Comparing.{Laid, Faces, Comparing, comparedOn, NodeListing, nodePairs};
 use field::Found;
 
 // The least of m pairs that does not name two separated nodes of a tree of n holes.
@@ -70,38 +69,39 @@ fn put_pair(out: &mut [u8], at: usize, i: usize, j: usize) -> usize
     next
 }
 
-// Writes the longest side of each node of a tree of n holes, which splitting asks for again and again.
-pub fn put_sides(work: &mut [u8], d: usize, n: usize)
+// Writes what comparisons ask of each node of a tree of n holes, again and again: its longest side and its reach.
+pub fn put_shapes(work: &mut [u8], d: usize, a: usize, b: usize, n: usize)
     requires { ⌜ Boxes (now work) d n ⌝ }
-    ensures { λ _. ⌜ SidesPut d n (now (work .entry)) (now (work .exit)) ⌝ }
+    requires { ⌜ Ratio a b ⌝ }
+    ensures { λ _. ⌜ ShapesPut d a b n (now (work .entry)) (now (work .exit)) ⌝ }
 {
     for k in 0..2 * n - 1 {
-        let side = field::longest_side(work, d, k);
-        slate::set_cell(work, slate::SIDE, k, side);
+        put_shape(work, d, a, b, k);
     }
 }
 
-// Whether nodes i and j are leaves.
-fn both_leaves(work: &[u8], i: usize, j: usize) -> bool
-    requires { ⌜ Grid (now work) ⌝ }
-    requires { ⌜ (i < 2048) × (j < 2048) ⌝ }
-    ensures { λ r. ⌜ BothLeaves (now (work .entry)) i j r ⌝ }
+// The same of node k.
+fn put_shape(work: &mut [u8], d: usize, a: usize, b: usize, k: usize)
+    requires { ⌜ NodeOn (now work) d k ⌝ }
+    requires { ⌜ Ratio a b ⌝ }
+    ensures { λ _. ⌜ ShapePut d a b k (now (work .entry)) (now (work .exit)) ⌝ }
 {
-    if slate::cell(work, slate::FIRST, i) != 65535 {
-        return false;
-    }
-    slate::cell(work, slate::FIRST, j) == 65535
+    let side = field::longest_side(work, d, k);
+    let reach = field::reach(work, d, a, b, k);
+    slate::set_cell(work, slate::SIDE, k, side);
+    slate::set_large_cell(work, slate::REACH, k, reach);
 }
 
-// Whether nodes i and j, which face each other, are separated. Two leaves always are.
+// Whether nodes i and j, which face each other, are separated: neither reaches further than D.
 fn apart(work: &[u8], d: usize, a: usize, b: usize, n: usize, i: usize, j: usize) -> bool
     requires { ⌜ Faces (now work) d a b n i j ⌝ }
     ensures { λ r. ⌜ r ≡ separated a b (boxOn (now (work .entry)) d i) (boxOn (now (work .entry)) d j) ⌝ }
 {
-    if both_leaves(work, i, j) {
-        return true;
+    let far = field::distance(work, d, i, j);
+    if far < slate::large_cell(work, slate::REACH, i) {
+        return false;
     }
-    field::is_separated(work, d, a, b, i, j)
+    slate::large_cell(work, slate::REACH, j) <= far
 }
 
 // Compares node i with node j, and gives the place after the pairs that come of it.

@@ -27,7 +27,7 @@ use Rattle.tree.specs.Standing.{treeOn, Stands}
 use Rattle.tree.specs.Steps.{Summed}
 use Rattle.tree.specs.Planting.{FieldIn, Grown}
 use Rattle.tree.proofs.Views.{on-holes, same-tree}
-use Rattle.pairs.specs.Listing.{farOn, longOn, grownOn, Sides, Boxes, SidesPut}
+use Rattle.pairs.specs.Listing.{farOn, longOn, grownOn, Shapes, Boxes, ShapesPut}
 use Rattle.record.specs.Building.{Buildable, Sized, Drawn, Made}
 use Rattle.paper.specs.declared.Wrote.{Wrote}
 
@@ -58,7 +58,7 @@ module _ {c : List ℕ} {a b n : ℕ} (f : Buildable c a b n) (w : List ℕ) (gr
   tree-is : grownOn w n ≡ treeOf (holesAt 2 c 0 n)
   tree-is = grow-back (treeOn w n) (treeOf (holesAt 2 c 0 n)) met all-leaves nodes few-nodes
 
-  module _ (boxes : (s : Tree) → Sub s (treeOf (holesAt 2 c 0 n)) → boxOn w 2 (number s) ≡ boxAt (holesAt 2 c 0 n) (under s)) (sides : Sides w 2 n) where
+  module _ (boxes : (s : Tree) → Sub s (treeOf (holesAt 2 c 0 n)) → boxOn w 2 (number s) ≡ boxAt (holesAt 2 c 0 n) (under s)) (shapes : Shapes w 2 a b n) where
     far-is : (A B : Tree) → Sub A (treeOf (holesAt 2 c 0 n)) → Sub B (treeOf (holesAt 2 c 0 n)) → farOn w 2 a b A B ≡ far (holesAt 2 c 0 n) a b A B
     unfolding farOn far
     far-is A B p q = rw (boxes A p, boxes B q)
@@ -85,7 +85,7 @@ module _ {c : List ℕ} {a b n : ℕ} (f : Buildable c a b n) (w : List ℕ) (gr
             stands = stands;
             axes = record { some = omega arith; few = omega arith };
             ratio = f .ratio;
-            sides = sides;
+            shapes = shapes;
             met = rw tree-is met;
             regular = rw tree-is regular-on;
           };
@@ -93,22 +93,22 @@ module _ {c : List ℕ} {a b n : ℕ} (f : Buildable c a b n) (w : List ℕ) (gr
           pairs = rw tree-is (ap (map numbers) (pairs-agree (farOn w 2 a b) (far (holesAt 2 c 0 n) a b) (longOn w 2) (side (holesAt 2 c 0 n)) regular-on far-is side-is));
         }
 
--- summed up and with its sides written: the tree is still there, and each node's box is that of its holes
+-- summed up and with its shapes written: the tree is still there, and each node's box is that of its holes
 module _ {c : List ℕ} {a b n : ℕ} (f : Buildable c a b n) {old mid : List ℕ} (grid : Grid old)
     (g : Grown (holesAt 2 c 0 n) n old mid) where
   pub planted : Stands mid n
   planted = stands f mid (omega (arith, g .len)) (g .nodes)
 
   -- an answer speaks of the work area's length alone, which no step changes
-  pub made-as : {last out out′ : List ℕ} {r : Wrote} → Sized c n mid last → Made c a b (length last) out out′ r → Made c a b (length old) out out′ r
+  pub made-as : {last out out′ : List ℕ} {r : Wrote} → Sized c a b n mid last → Made c a b (length last) out out′ r → Made c a b (length old) out out′ r
   made-as {last} s m =
-      let e : length last ≡ length old = s .sides .kept .len ∙ s .summed .len ∙ g .len in
+      let e : length last ≡ length old = s .shapes .kept .len ∙ s .summed .len ∙ g .len in
       rw e at m
 
-  pub sided : {last : List ℕ} → Sized c n mid last → Drawn c a b n last
-  sided {last} z =
+  pub shaped : {last : List ℕ} → Sized c a b n mid last → Drawn c a b n last
+  shaped {last} z =
       let s = z .summed in
-      let p = z .sides in
+      let p = z .shapes in
       let keeps : (i : ℕ) → i < 2_048 * HOLES → word last i ≡ word mid i =
       λ i l. p .kept .rest i (λ x y. omega arith) ∙ s .rest i (λ x y. omega arith) (omega arith) in
       let e = same-tree last mid n (λ k l. keeps _ (omega arith)) (λ k l. keeps _ (omega arith)) in
@@ -117,7 +117,7 @@ module _ {c : List ℕ} {a b n : ℕ} (f : Buildable c a b n) {old mid : List �
       box-high last (z .between) 2 (number t) (λ i l. p .kept .rest i (λ x y. omega arith))
       ∙ s .box (number t) (node-there t q)
       ∙ ap (boxAt (holesAt 2 c 0 n)) (under-is t q))
-      (p .sides)
+      (p .shapes)
     where
       under-is : (t : Tree) → Sub t (treeOf (holesAt 2 c 0 n)) → Rattle.paper.specs.Rules.under-node (treeOn mid n) (number t) ≡ under t
       under-is t q =
@@ -143,8 +143,8 @@ boxes-there t s =
       few = t .few;
     }
 
-pub sized-up : {c w mid new : List ℕ} {n : ℕ} → Summed c 2 n w mid → SidesPut 2 n mid new → Sized c n w new
-sized-up {mid} s p = record { between = mid; summed = s; sides = p }
+pub sized-up : {c w mid new : List ℕ} {a b n : ℕ} → Summed c 2 n w mid → ShapesPut 2 a b n mid new → Sized c a b n w new
+sized-up {mid} s p = record { between = mid; summed = s; shapes = p }
 
 module _ {c : List ℕ} {a b n : ℕ} (f : Buildable c a b n) where
   pub holes-in-list : HolesIn c 2 n

@@ -16,7 +16,7 @@ use Rattle.paper.specs.declared.Wrote.{Wrote}
 use Rattle.theory.proofs.Fields.{Distinct}
 use Rattle.tree.specs.Standing.{treeOn}
 use Rattle.tree.specs.Steps.{Summed}
-use Rattle.pairs.specs.Listing.{SidesPut, Listable, pairsOn}
+use Rattle.pairs.specs.Listing.{ShapesPut, Listable, pairsOn}
 
 -- n holes at different places and a ratio in range
 pub record Buildable (c : List ℕ) (a b n : ℕ) : Type 0 where
@@ -36,11 +36,11 @@ pub record Made (c : List ℕ) (a b w : ℕ) (out out′ : List ℕ) (r : Wrote)
   pub answer : wrote r ≡ counted (build c a b w (length out))
   pub output : out′ ≡ left-in (length out) (build c a b w (length out))
 
--- a tree that was summed up, and then its sides were put beside it
-pub record Sized (c : List ℕ) (n : ℕ) (old new : List ℕ) : Type 0 where
+-- a tree that was summed up, and then what comparisons ask of its nodes was put beside it
+pub record Sized (c : List ℕ) (a b n : ℕ) (old new : List ℕ) : Type 0 where
   pub between : List ℕ
   pub summed : Summed c 2 n old between
-  pub sides : SidesPut 2 n between new
+  pub shapes : ShapesPut 2 a b n between new
 
 -- the field's tree stands on the slate with its boxes, so that its pairs can be listed
 pub record Drawn (c : List ℕ) (a b n : ℕ) (w : List ℕ) : Type 0 where

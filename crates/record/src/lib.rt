@@ -5,7 +5,7 @@ ghost use Prim.Native.Nat.{_+_, _*_, _-_, _/_, _<_, _≤_};
 ghost use lib.ListN.{length};
 ghost use Rattle.slate.specs.Columns.{FIRST, SECOND};
 ghost use Rattle.slate.specs.Slate.{cell, Grid};
-ghost use Rattle.paper.specs.Field.{ratio-ok};
+ghost use Rattle.paper.specs.Field.{Ratio, ratio-ok};
 ghost use Rattle.paper.specs.Record.{holes-part, nodes-part, pairs-part, two-numbers};
 ghost use Rattle.paper.specs.Answers.{PartAt, Builds, Checks, HandsBack};
 ghost use Rattle.record.specs.Cutting.{CutSays, Begun, PartsOf, holes-slice, nodes-slice, pairs-slice};
@@ -358,14 +358,15 @@ fn write_record(holes: &[u8], a: usize, b: usize, n: usize, work: &[u8], out: &m
     Wrote::Bytes(end as u64)
 }
 
-// Sums the tree on the slate up, and puts the longest side of each node beside it.
-fn size_up(work: &mut [u8], holes: &[u8], n: usize)
+// Sums the tree on the slate up, and puts what comparisons ask of each node beside it.
+fn size_up(work: &mut [u8], holes: &[u8], a: usize, b: usize, n: usize)
     requires { ⌜ Stands (now work) n ⌝ }
     requires { ⌜ HolesIn (now holes) 2 n ⌝ }
-    ensures { λ _. ⌜ Sized (now (holes .entry)) n (now (work .entry)) (now (work .exit)) ⌝ }
+    requires { ⌜ Ratio a b ⌝ }
+    ensures { λ _. ⌜ Sized (now (holes .entry)) a b n (now (work .entry)) (now (work .exit)) ⌝ }
 {
     tree::sum_up(work, holes, 2, n);
-    pairs::put_sides(work, 2, n);
+    pairs::put_shapes(work, 2, a, b, n);
 }
 
 // Cuts the field into its tree, sums it up on the slate, and writes its record.
@@ -376,7 +377,7 @@ fn fill(holes: &[u8], a: usize, b: usize, n: usize, work: &mut [u8], out: &mut [
     ensures { λ r. ⌜ Made (now (holes .entry)) a b (length (now (work .entry))) (now (out .entry)) (now (out .exit)) r ⌝ }
 {
     tree::plant(work, holes, 2, n);
-    size_up(work, holes, n);
+    size_up(work, holes, a, b, n);
     write_record(holes, a, b, n, work, out)
 }
 

@@ -7,7 +7,7 @@ use native.Mathlib.Omega.{arith}
 use lib.ListN.{replicate}
 use Rattle.words.specs.Area.{Saved}
 use Rattle.words.proofs.AreaLaws.{word-zeros, run-same, run-save-out, run-save-end}
-use Rattle.slate.specs.Slate.{cell, column, Set, Kept}
+use Rattle.slate.specs.Slate.{cell, column, two-words, large, Set, Kept}
 
 -- ---- a set, given by its address i, which at `Set old new c k v` is 2,048 * c + k
 
@@ -58,6 +58,15 @@ kept-cell p c k h = p .rest (2_048 * c + k) h
 
 pub kept-column : {old new : List ℕ} {lo hi : ℕ} → Kept old new lo hi → (c n : ℕ) → (lo < 2_048 * c + n → 2_048 * c < hi → ⊥) → column new c n ≡ column old c n
 kept-column {old} {new} p c n h = run-same new old (2_048 * c) n (λ k a b. p .rest k (λ x y. h (omega arith) (omega arith)))
+
+pub kept-two : {old new : List ℕ} {lo hi : ℕ} → Kept old new lo hi → (i : ℕ) → (lo < i + 2 → i < hi → ⊥) → two-words new i ≡ two-words old i
+kept-two p i h = rw (p .rest i (λ x y. h (omega arith) (omega arith)), p .rest (i + 1) (λ x y. h (omega arith) (omega arith)))
+
+pub kept-large : {old new : List ℕ} {lo hi : ℕ} → Kept old new lo hi → (c k : ℕ) → (lo < 2_048 * c + 4 * k + 4 → 2_048 * c + 4 * k < hi → ⊥)
+    → large new c k ≡ large old c k
+kept-large p c k h =
+    let i = 2_048 * c + 4 * k in
+    omega (arith, kept-two p i (λ x y. h (omega arith) (omega arith)), kept-two p (i + 2) (λ x y. h (omega arith) (omega arith)))
 
 -- ---- an example: two sets in columns 0 and 5, and any cell of column 6
 

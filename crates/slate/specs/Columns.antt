@@ -13,6 +13,9 @@ HOLES = 2
 abbrev pub LOWEST : ℕ
 LOWEST = 3
 
+abbrev pub REACH : ℕ
+REACH = 4
+
 abbrev pub FROM : ℕ
 FROM = 4
 

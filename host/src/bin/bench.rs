@@ -102,16 +102,21 @@ impl Buffers {
     }
 }
 
-/// Seconds, or instructions, of the library and the baseline.
+/// Seconds, or instructions, of the library's call, of the baseline's, and of the library's check of the same record.
 #[derive(Clone, Copy)]
-struct Both {
+struct Costs {
     library: f64,
     baseline: f64,
+    check: f64,
 }
 
-impl Both {
+impl Costs {
     fn ratio(self) -> f64 {
         self.library / self.baseline
+    }
+
+    fn share(self) -> f64 {
+        self.library / self.check
     }
 }
 
@@ -121,17 +126,20 @@ fn median(mut times: Vec<f64>) -> f64 {
 }
 
 /// Medians of interleaved runs: 15, or fewer that take three seconds, but three at least.
-fn time(sheet: &Sheet, call: Call, work: usize) -> Both {
+fn time(sheet: &Sheet, call: Call, work: usize) -> Costs {
     let mut buffers = Buffers::new(sheet);
-    let (mut of_library, mut of_baseline) = (Vec::new(), Vec::new());
+    let mut times = [Vec::new(), Vec::new(), Vec::new()];
     let start = processor_seconds();
-    while of_library.len() < 3 || (of_library.len() < 15 && processor_seconds() - start < 3.0) {
-        of_library.push(seconds(|| buffers.run_library(sheet, call)));
-        of_baseline.push(seconds(|| buffers.run_baseline(sheet, call, work)));
+    while times[0].len() < 3 || (times[0].len() < 15 && processor_seconds() - start < 3.0) {
+        times[0].push(seconds(|| buffers.run_library(sheet, call)));
+        times[1].push(seconds(|| buffers.run_baseline(sheet, call, work)));
+        times[2].push(seconds(|| buffers.run_library(sheet, Call::Check)));
     }
-    Both {
-        library: median(of_library),
-        baseline: median(of_baseline),
+    let [library, baseline, check] = times.map(median);
+    Costs {
+        library,
+        baseline,
+        check,
     }
 }
 
@@ -155,27 +163,30 @@ fn instructions(sheet: &Sheet, name: &str, side: &str) -> Option<f64> {
 }
 
 /// The instructions of one call: a run that makes it less a run that makes none.
-fn count(sheet: &Sheet, name: &str) -> Option<Both> {
-    let none = instructions(sheet, name, "none")?;
-    Some(Both {
-        library: instructions(sheet, name, "library")? - none,
-        baseline: instructions(sheet, name, "baseline")? - none,
+fn count(sheet: &Sheet, name: &str) -> Option<Costs> {
+    let of =
+        |name, side| Some(instructions(sheet, name, side)? - instructions(sheet, name, "none")?);
+    Some(Costs {
+        library: of(name, "library")?,
+        baseline: of(name, "baseline")?,
+        check: of("check", "library")?,
     })
 }
 
-/// The two columns of a row that instructions fill, in thousands.
-fn counted(sheet: &Sheet, name: &str, times: Both) -> String {
+/// The columns of a row that instructions fill, in thousands.
+fn counted(sheet: &Sheet, name: &str, times: Costs) -> String {
     let counts = (times.library < COUNTED)
         .then(|| count(sheet, name))
         .flatten();
     match counts {
-        Some(both) => format!(
-            " {:.0} | {:.0} | {:.2} |",
-            both.library / 1e3,
-            both.baseline / 1e3,
-            both.ratio()
+        Some(costs) => format!(
+            " {:.0} | {:.0} | {:.2} | {:.2} |",
+            costs.library / 1e3,
+            costs.baseline / 1e3,
+            costs.ratio(),
+            costs.share()
         ),
-        None => " - | - | - |".to_string(),
+        None => " - | - | - | - |".to_string(),
     }
 }
 
@@ -184,10 +195,11 @@ fn head(columns: &[&str]) {
     println!("|{}", "---|".repeat(columns.len()));
 }
 
-const COUNTS: [&str; 3] = [
+const COUNTS: [&str; 4] = [
     "library, thousand instructions",
     "baseline, thousand instructions",
     "library / baseline",
+    "library's call / its check",
 ];
 
 /// A row for every call, layout and ratio.
@@ -207,55 +219,56 @@ fn table(with_instructions: bool) {
         columns.extend(COUNTS);
     }
     head(&columns);
-    let mut ratios = Vec::new();
+    let mut costs = Vec::new();
     for layout in LAYOUTS {
         for a in RATIOS {
             let sheet = Sheet::new(layout, 1_024, a, 1);
-            ratios.extend(rows(&sheet, with_instructions));
-            let whole = time(&sheet, Call::Check, 2 * sheet.n * sheet.n);
-            ratios.push((WHOLE, whole.ratio()));
+            costs.extend(rows(&sheet, with_instructions));
+            costs.push((WHOLE, time(&sheet, Call::Check, 2 * sheet.n * sheet.n)));
         }
     }
-    summary(&ratios);
+    summary(&costs);
 }
 
 /// The checker against a baseline that has a byte for each cell at once.
 const WHOLE: &str = "check, against a baseline with n² bytes";
 
-/// The mean and the greatest ratio of each call.
-fn summary(ratios: &[(&str, f64)]) {
+/// The mean and the greatest ratio of each call: to the baseline, and to the check.
+fn summary(rows: &[(&str, Costs)]) {
     println!();
-    head(&["call", "rows", "mean library / baseline", "greatest"]);
+    head(&[
+        "call",
+        "rows",
+        "mean library / baseline",
+        "greatest",
+        "mean library's call / its check",
+        "greatest",
+    ]);
     for name in CALLS.into_iter().chain([WHOLE]) {
-        let of_call: Vec<f64> = ratios
-            .iter()
-            .filter(|(call, _)| *call == name)
-            .map(|(_, ratio)| *ratio)
-            .collect();
+        let of_call = || rows.iter().filter(|row| row.0 == name).map(|row| row.1);
+        let count = of_call().count();
+        let mean = |part: fn(Costs) -> f64| of_call().map(part).sum::<f64>() / count as f64;
+        let most = |part: fn(Costs) -> f64| of_call().map(part).fold(0.0, f64::max);
         println!(
-            "| {name} | {} | {:.2} | {:.2} |",
-            of_call.len(),
-            of_call.iter().sum::<f64>() / of_call.len() as f64,
-            of_call.iter().copied().fold(0.0, f64::max)
+            "| {name} | {count} | {:.2} | {:.2} | {:.2} | {:.2} |",
+            mean(Costs::ratio),
+            most(Costs::ratio),
+            mean(Costs::share),
+            most(Costs::share)
         );
     }
 }
 
-/// The rows of one field at one ratio; gives each call's ratio to the baseline.
-fn rows(sheet: &Sheet, with_instructions: bool) -> Vec<(&'static str, f64)> {
-    let check = time(sheet, Call::Check, WORK);
-    let mut ratios = Vec::new();
+/// The rows of one field at one ratio.
+fn rows(sheet: &Sheet, with_instructions: bool) -> Vec<(&'static str, Costs)> {
+    let mut costs = Vec::new();
     for name in CALLS {
         let Some(call) = sheet.call(name) else {
             continue;
         };
-        let times = match call {
-            Call::Check => check,
-            _ => time(sheet, call, WORK),
-        };
-        let share = times.library / check.library;
+        let times = time(sheet, call, WORK);
         println!(
-            "| {name} | {} | {}/{} | {} | {:.3} | {:.3} | {:.2} | {share:.2} |{}",
+            "| {name} | {} | {}/{} | {} | {:.3} | {:.3} | {:.2} | {:.2} |{}",
             sheet.layout.name(),
             sheet.a,
             sheet.b,
@@ -263,15 +276,16 @@ fn rows(sheet: &Sheet, with_instructions: bool) -> Vec<(&'static str, f64)> {
             1e3 * times.library,
             1e3 * times.baseline,
             times.ratio(),
+            times.share(),
             if with_instructions {
                 counted(sheet, name, times)
             } else {
                 String::new()
             }
         );
-        ratios.push((name, times.ratio()));
+        costs.push((name, times));
     }
-    ratios
+    costs
 }
 
 /// How build and check grow with the field: uniform fields at 3/1.

@@ -6,18 +6,18 @@ use native.Mathlib.Omega.{arith}
 use borrow.Author.Needs.{needs}
 use Rattle.words.specs.Area.{word}
 use Rattle.slate.specs.Columns.{MARKS, SKIP}
-use Rattle.slate.specs.Slate.{cell}
+use Rattle.slate.specs.Slate.{cell, WordsIn, WordsCleared}
 use Rattle.slate.proofs.Frames.{kept-more}
-use Rattle.cover.specs.Marks.{marked, row-at, Block, WordsIn, WordsCleared, Blank}
+use Rattle.cover.specs.Marks.{marked, row-at, Block, Blank}
 use Rattle.cover.proofs.BitLaws.{no-bit}
 use Rattle.cover.proofs.empty_rows.Statement.{statement}
 use Rattle.cover.proofs.empty_rows.Tie as tie
 
-module _ {a b : List ℕ} {start end : ℕ} (g : Block a start end) (p : WordsCleared (2_048 * MARKS) (64 * (end - start)) a b) where
+module _ {a b : List ℕ} {start end : ℕ} (g : Block a start end) (p : WordsCleared a b (2_048 * MARKS) (64 * (end - start))) where
   next : WordsIn b (2_048 * SKIP + start) (end - start)
   next = record { grid = omega arith; there = omega arith }
 
-  module _ {d : List ℕ} (q : WordsCleared (2_048 * SKIP + start) (end - start) b d) where
+  module _ {d : List ℕ} (q : WordsCleared b d (2_048 * SKIP + start) (end - start)) where
     skip : (x : ℕ) → start ≤ x → x < end → cell d SKIP x ≡ 0
     skip x l h =
         let e : 2_048 * SKIP + start + (x - start) ≡ 2_048 * SKIP + x = omega arith in
