@@ -1,21 +1,24 @@
--- One axis more. A hole, a box, the box around two, G and D over x + 1 axes are those over x axes with axis x at the end, since each is made
--- along the list of axes, in order. So a loop over the axes keeps its contract at its counter. Assumes nothing.
+-- One axis more. A hole, a box, the box around two, G and a squared distance over x + 1 axes are those over x axes with axis x at the end, since
+-- each is made along the list of axes, in order. So a loop over the axes keeps its contract at its counter. Assumes nothing.
 use mathlib.Core.Path.{_≡_, refl, sym, _∙_}
 use mathlib.Core.List.{List, [], _∷_, _++_, map, map-append}
-use Prim.Native.Nat.{ℕ, _+_, _*_, _<_}
-use native.Mathlib.Nat.{zero-add}
+use Prim.Native.Nat.{ℕ, zero, suc, _+_, _*_, _<_, _≤_}
+use native.Mathlib.Nat.{zero-add, le-trans, le-add-left, le-add-right}
+use native.Mathlib.Numerals.{add-one}
 use native.Mathlib.Omega.{arith}
+use lib.Dec.{eqb}
 use lib.ListN.{length, length-map}
+use borrow.Author.Tests.{eqb-true, eqb-false}
 use Rattle.words.specs.Words.{be}
 use Rattle.slate.specs.Columns.{LOW, HIGH}
 use Rattle.paper.specs.Lists.{below}
 use Rattle.paper.specs.Field.{listAt, holeAt, gap, square, distance²}
 use Rattle.paper.specs.Tree.{Side, Box, point, spot, around, long}
-use Rattle.paper.specs.Separation.{G, C, D}
-use Rattle.paper.proofs.ListLaws.{from-append}
+use Rattle.paper.specs.Separation.{G}
+use Rattle.paper.proofs.ListLaws.{cases, from-append}
 use Rattle.theory.proofs.EachLaws.{length-from}
 use Rattle.field.specs.Boxes.{sideOn, boxOn, Boxed}
-use Rattle.field.specs.Sides.{sideAround, twice-centre, gapOn, Sided}
+use Rattle.field.specs.Sides.{sideAround, gapOn, Sided, Squared}
 use Rattle.field.proofs.Boxes.{length-box, box-same}
 
 -- ---- one more at the end of a list
@@ -41,13 +44,6 @@ distance-end [] [] x y e = omega arith
 distance-end [] (b ∷ q) x y e = absurd (omega arith)
 distance-end (a ∷ p) [] x y e = absurd (omega arith)
 distance-end (a ∷ p) (b ∷ q) x y e = rw (distance-end p q x y (omega arith)) (omega arith)
-
-D-end : (A B : Box) (s t : Side) → length A ≡ length B
-    → D (A ++ (s ∷ [])) (B ++ (t ∷ [])) ≡ D A B + square (gap (twice-centre s) (twice-centre t))
-unfolding D C
-D-end A B s t e =
-    rw (map-append, map-append)
-    (distance-end (map twice-centre A) (map twice-centre B) (twice-centre s) (twice-centre t) (rw (length-map, length-map) e))
 
 -- ---- a hole in a list of bytes
 
@@ -94,8 +90,34 @@ beside-more w x k s o =
 pub G-more : (w : List ℕ) (x k : ℕ) → G (boxOn w (x + 1) k) ≡ G (boxOn w x k) + square (long (sideOn w k x))
 G-more w x k = rw (box-more w x k) (G-end (boxOn w x k) (sideOn w k x))
 
-pub D-more : (w : List ℕ) (x j k : ℕ) → D (boxOn w (x + 1) j) (boxOn w (x + 1) k) ≡ D (boxOn w x j) (boxOn w x k) + square (gapOn w j k x)
-D-more w x j k = rw (box-more w x j, box-more w x k) (D-end _ _ (sideOn w j x) (sideOn w k x) (same-long w x j k))
+-- the squared distance of what f takes of each side of two nodes' boxes
+module _ (f : Side → ℕ) (w : List ℕ) (j k : ℕ) where
+  abbrev takenOn : ℕ → ℕ
+  takenOn x = distance² (map f (boxOn w x j)) (map f (boxOn w x k))
+
+  taken-more : (x : ℕ) → takenOn (x + 1) ≡ takenOn x + square (gapOn f w j k x)
+  taken-more x =
+      rw (box-more w x j, box-more w x k, map-append, map-append)
+      (distance-end _ _ (f (sideOn w j x)) (f (sideOn w k x)) (rw (length-map, length-map) (same-long w x j k)))
+
+  pub sum-none : 0 ≡ takenOn 0
+  unfolding distance²
+  sum-none = rw (box-none w j)
+
+  pub sum-more : (x sum r q : ℕ) → sum ≡ takenOn x → r ≡ gapOn f w j k x → Squared r q → sum + q ≡ takenOn (x + 1)
+  sum-more x sum r q e g s = rw (taken-more x, e, s .is, g)
+
+  pub sum-all : (x d sum : ℕ) → sum ≡ takenOn x → x ≤ d → d ≤ x → sum ≡ takenOn d
+  sum-all x d sum e l m = let g : x ≡ d = omega arith in rw g at e
+
+  -- one axis alone says no more than all
+  pub one-axis : (x d r q : ℕ) → r ≡ gapOn f w j k x → Squared r q → x < d → q ≤ takenOn d
+  one-axis x zero r q e s l = absurd (omega arith)
+  one-axis x (suc d) r q e s l =
+      let m : takenOn (suc d) ≡ takenOn d + square (gapOn f w j k d) = rw add-one at (taken-more d) in
+      cases (eqb x d)
+      (λ b. rw (m, s .is, e, eqb-true x d b) (le-add-left _ _))
+      (λ b. rw m (le-trans (one-axis x d r q e s (omega (arith, eqb-false x d b))) (le-add-right _ _)))
 
 -- ---- a box set on no axis, and on one axis more
 

@@ -32,6 +32,13 @@ sideOn w k x = record { low = cell w (LOW + 2 * x) k; high = cell w (HIGH + 2 * 
 unfoldable pub boxOn : List ℕ → ℕ → ℕ → Box
 boxOn w d k = map (sideOn w k) (below d)
 
+-- the low end of a side, and those of a box: of the box of one hole they are the hole
+abbrev pub low-end : Side → ℕ
+low-end s = s .low
+
+abbrev pub corner : Box → List ℕ
+corner B = map low-end B
+
 -- there is a node k, with a box of d sides
 pub record NodeOn (w : List ℕ) (d k : ℕ) : Type 0 where
   pub grid : Grid w

@@ -18,12 +18,13 @@ side l h = record { low = l; high = h }
 abbrev pub sideAround : Side → Side → Side
 sideAround s t = side (min (s .low) (t .low)) (max (s .high) (t .high))
 
--- a side's part of C, and how far those of nodes j and k are apart on axis x
+-- a side's part of C
 abbrev pub twice-centre : Side → ℕ
 twice-centre s = s .low + s .high
 
-abbrev pub gapOn : List ℕ → ℕ → ℕ → ℕ → ℕ
-gapOn w j k x = gap (twice-centre (sideOn w j x)) (twice-centre (sideOn w k x))
+-- how far nodes j and k are apart on axis x, by what f takes of a side
+abbrev pub gapOn : (Side → ℕ) → List ℕ → ℕ → ℕ → ℕ → ℕ
+gapOn f w j k x = gap (f (sideOn w j x)) (f (sideOn w k x))
 
 -- there is a node k, with a side on axis x
 pub record SideIn (w : List ℕ) (x k : ℕ) : Type 0 where

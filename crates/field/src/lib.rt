@@ -8,11 +8,11 @@ ghost use lib.ListN.{getD};
 ghost use Rattle.words.specs.Words.{Read};
 ghost use Rattle.slate.specs.Slate.{Grid};
 ghost use Rattle.paper.specs.Lists.{same};
-ghost use Rattle.paper.specs.Field.{holeAt, holesAt, gap, square, Ratio};
+ghost use Rattle.paper.specs.Field.{holeAt, holesAt, gap, square, distance², Ratio};
 ghost use Rattle.paper.specs.Tree.{point, spot, around, long, longest, axis};
 ghost use Rattle.paper.specs.Separation.{G, D, separated};
 ghost use Rattle.paper.specs.Rules.{repeats};
-ghost use Rattle.field.specs.Boxes.{HolesIn, HoleIn, NodeOn, Boxed, sideOn, boxOn};
+ghost use Rattle.field.specs.Boxes.{HolesIn, HoleIn, NodeOn, Boxed, sideOn, boxOn, low-end, corner};
 ghost use Rattle.field.specs.Buckets.{Bucketed, Chained, Pushed, Searched};
 ghost use Rattle.field.specs.Reach.{reach};
 ghost use Rattle.field.specs.Sides.{side, sideAround, twice-centre, gapOn, SideIn, Sided, Squared};
@@ -190,7 +190,7 @@ fn extent(work: &[u8], x: usize, k: usize) -> usize
 }
 
 // The square of a number that is no larger than twice a coordinate.
-fn squared(x: usize) -> usize
+pub fn squared(x: usize) -> usize
     requires { ⌜ x < 131072 ⌝ }
     ensures { λ r. ⌜ Squared x r ⌝ }
 {
@@ -240,7 +240,7 @@ fn apart(x: usize, y: usize) -> usize
 fn centres_apart(work: &[u8], x: usize, j: usize, k: usize) -> usize
     requires { ⌜ SideIn (now work) x j ⌝ }
     requires { ⌜ k < 2048 ⌝ }
-    ensures { λ r. ⌜ (r ≡ gapOn (now (work .entry)) j k x) × (r < 131072) ⌝ }
+    ensures { λ r. ⌜ (r ≡ gapOn twice-centre (now (work .entry)) j k x) × (r < 131072) ⌝ }
 {
     apart(centre(work, x, j), centre(work, x, k))
 }
@@ -254,6 +254,29 @@ pub fn distance(work: &[u8], d: usize, j: usize, k: usize) -> usize
     let mut sum = 0;
     for x in 0..d {
         sum += squared(centres_apart(work, x, j, k));
+    }
+    sum
+}
+
+// How far the low ends of nodes j and k are apart on axis x.
+pub fn lows_apart(work: &[u8], x: usize, j: usize, k: usize) -> usize
+    requires { ⌜ SideIn (now work) x j ⌝ }
+    requires { ⌜ k < 2048 ⌝ }
+    ensures { λ r. ⌜ (r ≡ gapOn low-end (now (work .entry)) j k x) × (r < 65536) ⌝ }
+{
+    apart(low(work, x, j), low(work, x, k))
+}
+
+// The squared distance of the low corners of the boxes of nodes j and k. Of two nodes of one hole each it is the squared distance of their holes,
+// at half the reads that D takes.
+pub fn corners_apart(work: &[u8], d: usize, j: usize, k: usize) -> usize
+    requires { ⌜ NodeOn (now work) d j ⌝ }
+    requires { ⌜ k < 2048 ⌝ }
+    ensures { λ r. ⌜ (r ≡ distance² (corner (boxOn (now (work .entry)) d j)) (corner (boxOn (now (work .entry)) d k))) × (r < 51539607552) ⌝ }
+{
+    let mut sum = 0;
+    for x in 0..d {
+        sum += squared(lows_apart(work, x, j, k));
     }
     sum
 }

@@ -1,10 +1,10 @@
--- What the keys on the slate mean for a taken record. A node with one hole has it for its lowest, and its box is that hole's place; D of two such boxes
--- is four times the squared distance, since it is taken between twice the centres. The closest two holes are the sides of a listed pair, and no key
+-- What the keys on the slate mean for a taken record. A node with one hole has it for its lowest, and its box is that hole's place, so the box's low
+-- corner too. The closest two holes are the sides of a listed pair, and no key
 -- is less than theirs, so the least key is theirs. Assumes nothing.
 use mathlib.Core.Path.{_≡_, refl, sym, ap, _∙_}
 use mathlib.Core.Logic.{⊎-elim}
 use mathlib.Core.List.{List, [], _∷_, List·Memᴰ·head}
-use Prim.Native.Nat.{ℕ, _+_, _*_, _/_, _<_, _≤_, min, max}
+use Prim.Native.Nat.{ℕ, _*_, _<_, _≤_, min, max}
 use native.Mathlib.Nat.{lt-trans}
 use native.Mathlib.Omega.{arith}
 use lib.Dec.{eqb, ltb}
@@ -12,9 +12,8 @@ use lib.ListN.{length}
 use borrow.Author.Tests.{eqb-true, eqb-false, ltb-true, ltb-false}
 use Rattle.slate.specs.Columns.{HOLES, LOWEST}
 use Rattle.slate.specs.Slate.{cell}
-use Rattle.paper.specs.Field.{Hole, Field, hole, gap, distance²}
+use Rattle.paper.specs.Field.{Hole, Field, hole}
 use Rattle.paper.specs.Tree.{spot}
-use Rattle.paper.specs.Separation.{C, D}
 use Rattle.paper.specs.Record.{holes-in, pairs-in, two-numbers-at, viewOf}
 use Rattle.paper.specs.Rules.{hole-count, node-count, pair, NodeRule, PairRule, under-node, Under}
 use Rattle.paper.specs.Questions.{apart, nearest, Nearest, lowest}
@@ -26,7 +25,7 @@ use Rattle.theory.proofs.ClosestPair.{Holds, Sides, OneHole, under-leaf}
 use Rattle.theory.proofs.Grown.{under-below}
 use Rattle.theory.proofs.Taken.{sides-disjoint, taken-closest-listed}
 use Rattle.theory.proofs.RoundTrip.{view-holes, view-pairs}
-use Rattle.field.specs.Boxes.{boxOn}
+use Rattle.field.specs.Boxes.{boxOn, corner}
 use Rattle.record.specs.Cutting.{pairs-slice}
 use Rattle.record.specs.declared.Parts.{Parts}
 use Rattle.record.proofs.Slices.{pairs-length, pair-said}
@@ -35,14 +34,10 @@ use Rattle.questions.specs.Nearest.{key, no-key, pairKey, PairsThere, Le
 use Rattle.questions.specs.Asking.{Known}
 use Rattle.questions.proofs.Keys.{key-left, key-right, key-both}
 
--- D of two holes
-twice-apart : (g h : Hole) → D (spot g) (spot h) ≡ 4 * distance² g h
-unfolding D C distance²
-twice-apart [] h = refl
-twice-apart (x ∷ g) [] = refl
-twice-apart (x ∷ g) (y ∷ h) =
-    let e : gap (x + x) (y + y) ≡ 2 * gap x y = omega arith in
-    rw (e, twice-apart g h) (omega arith)
+-- the low corner of a hole's box
+corner-spot : (h : Hole) → corner (spot h) ≡ h
+corner-spot [] = refl
+corner-spot (x ∷ h) = ap (λ (l : Hole). x ∷ l) (corner-spot h)
 
 -- a list of one number
 only-one : (l : List ℕ) → length l ≡ 1 → (x : ℕ) × (l ≡ x ∷ [])
@@ -107,8 +102,8 @@ module _ {bytes w : List ℕ} {p : Parts} (k : Known bytes w p) where
     unfolding lowest
     lowest-alone = k .filled .lowest j l ∙ rw e refl
 
-    box-alone : boxOn w 2 j ≡ spot (hole (viewOf bytes .holes) x)
-    box-alone = k .filled .box j l ∙ rw e (box-one (viewOf bytes .holes) x)
+    corner-alone : corner (boxOn w 2 j) ≡ hole (viewOf bytes .holes) x
+    corner-alone = rw (k .filled .box j l, e, box-one (viewOf bytes .holes) x) (corner-spot (hole (viewOf bytes .holes) x))
 
   -- the key of two such nodes
   module _ (i j x y : ℕ) (l : i < node-count (viewOf bytes)) (h : j < node-count (viewOf bytes))
@@ -116,10 +111,8 @@ module _ {bytes w : List ℕ} {p : Parts} (k : Known bytes w p) where
     key-alone : pairKey w (i, j) ≡ key (apart (viewOf bytes .holes) (x, y)) (min x y) (max x y)
     unfolding apart
     key-alone =
-        let H = viewOf bytes .holes in
-        let d : 4 * distance² (hole H x) (hole H y) / 4 ≡ distance² (hole H x) (hole H y) = omega arith in
         key-both w i j (one-counted i x l e) (one-counted j y h f)
-        ∙ rw (lowest-alone i x l e, lowest-alone j y h f, box-alone i x l e, box-alone j y h f, twice-apart (hole H x) (hole H y), d) refl
+        ∙ rw (lowest-alone i x l e, lowest-alone j y h f, corner-alone i x l e, corner-alone j y h f) refl
 
     key-forth : x < y → pairKey w (i, j) ≡ key (apart (viewOf bytes .holes) (x, y)) x y
     key-forth o =

@@ -3,15 +3,15 @@
 use mathlib.Core.Path.{_≡_}
 use mathlib.Core.Bool.{true, false, _&&_}
 use mathlib.Core.List.{List}
-use Prim.Native.Nat.{ℕ, _+_, _*_, _/_, _<_, _≤_, min, max}
+use Prim.Native.Nat.{ℕ, _+_, _*_, _<_, _≤_, min, max}
 use lib.Dec.{eqb}
 use lib.ListN.{length}
 use Rattle.slate.specs.Columns.{HOLES, LOWEST}
 use Rattle.slate.specs.Slate.{cell, Grid}
-use Rattle.paper.specs.Separation.{D}
+use Rattle.paper.specs.Field.{distance²}
 use Rattle.paper.specs.Record.{two-numbers-at, viewOf}
 use Rattle.paper.specs.Questions.{apart, nearest}
-use Rattle.field.specs.Boxes.{boxOn}
+use Rattle.field.specs.Boxes.{boxOn, corner}
 use Rattle.record.specs.declared.Parts.{Parts}
 use Rattle.questions.specs.declared.Link.{Link}
 
@@ -29,13 +29,20 @@ pub record Linked (w : List ℕ) (p q : ℕ) (r : Link) : Type 0 where
   pub first-small : r .first < 65_536
   pub second-small : r .second < 65_536
 
--- the key of two nodes on the slate, of one hole each
-abbrev pub nodesKey : List ℕ → ℕ → ℕ → ℕ
-nodesKey w p q =
-    key (D (boxOn w 2 p) (boxOn w 2 q) / 4) (min (cell w LOWEST p) (cell w LOWEST q)) (max (cell w LOWEST p) (cell w LOWEST q))
+-- the key of two nodes on the slate that are as far apart as d says; of one hole each, whose places are the low corners of their boxes
+abbrev pub keyAt : List ℕ → ℕ → ℕ → ℕ → ℕ
+keyAt w p q d = key d (min (cell w LOWEST p) (cell w LOWEST q)) (max (cell w LOWEST p) (cell w LOWEST q))
 
-pub record KeyOf (w : List ℕ) (p q r : ℕ) : Type 0 where
-  pub is : r ≡ nodesKey w p q
+abbrev pub nodesKey : List ℕ → ℕ → ℕ → ℕ
+nodesKey w p q = keyAt w p q (distance² (corner (boxOn w 2 p)) (corner (boxOn w 2 q)))
+
+pub record KeyOf (w : List ℕ) (p q d r : ℕ) : Type 0 where
+  pub is : r ≡ keyAt w p q d
+  pub small : r < no-key
+
+-- r is the lesser of b and the key of two nodes, which is below no-key
+pub record NodesLesser (w : List ℕ) (p q b r : ℕ) : Type 0 where
+  pub is : r ≡ min b (nodesKey w p q)
   pub small : r < no-key
 
 -- the key of a pair
@@ -43,9 +50,9 @@ unfoldable pub pairKey : List ℕ → ℕ × ℕ → ℕ
 pairKey w p =
     elim (eqb (cell w HOLES (p .0)) 1 && eqb (cell w HOLES (p .1)) 1) [ true ↦ nodesKey w (p .0) (p .1) | false ↦ no-key ]
 
--- r is the key of a pair, below no-key where both sides have one hole
-pub record PairKey (w : List ℕ) (p : ℕ × ℕ) (r : ℕ) : Type 0 where
-  pub is : r ≡ pairKey w p
+-- r is the lesser of b and the key of a pair, below no-key where both sides have one hole
+pub record PairLesser (w : List ℕ) (p : ℕ × ℕ) (b r : ℕ) : Type 0 where
+  pub is : r ≡ min b (pairKey w p)
   pub small : cell w HOLES (p .0) ≡ 1 → cell w HOLES (p .1) ≡ 1 → r < no-key
 
 -- pair k is in a list of bytes, and there are rows for its nodes; the same of m pairs
@@ -68,6 +75,7 @@ pub record OneKey (w ps : List ℕ) (m r : ℕ) : Type 0 where
   pub is : r ≡ pairKey w (two-numbers-at ps (4 * which))
 
 pub record LeastKey (w ps : List ℕ) (m r : ℕ) : Type 0 where
+  pub most : r ≤ no-key
   pub least : (k : ℕ) → k < m → r ≤ pairKey w (two-numbers-at ps (4 * k))
   pub one : r < no-key → OneKey w ps m r
   pub small : (k : ℕ) → k < m → cell w HOLES (two-numbers-at ps (4 * k) .0) ≡ 1 → cell w HOLES (two-numbers-at ps (4 * k) .1) ≡ 1 → r < no-key

@@ -1,7 +1,7 @@
 // The questions over a taken record: the closest pair, the pitch test and the links.
 // Each inspects the record once and answers from what then stands on the slate; every call ends with the slate wiped.
 ghost use mathlib.Core.Path.{_≡_};
-ghost use Prim.Native.Nat.{_*_, _<_};
+ghost use Prim.Native.Nat.{_*_, _<_, _≤_};
 ghost use lib.Dec.{leb};
 ghost use lib.ListN.{length};
 ghost use Rattle.words.specs.Words.{Written};
@@ -11,7 +11,7 @@ ghost use Rattle.paper.specs.Questions.{closest, pitch};
 ghost use Rattle.paper.specs.Answers.{found, pitched, FindsClosest, TestsPitch, WritesLinks};
 ghost use Rattle.field.specs.Boxes.{NodeOn};
 ghost use Rattle.record.specs.Building.{Blank};
-ghost use Rattle.questions.specs.Nearest.{Linked, KeyOf, PairKey, PairThere, PairsThere, LeastKey, Wanted, NearestKey};
+ghost use Rattle.questions.specs.Nearest.{no-key, Linked, KeyOf, NodesLesser, PairLesser, PairThere, PairsThere, LeastKey, Wanted, NearestKey};
 ghost use Rattle.questions.specs.Asking.{Known, LooksOn, Looks};
 ghost use Rattle.questions.specs.Linking.{linkOn, linksOn, LinkFits, LinksFit, LinksMade};
 use paper::Checked;
@@ -58,32 +58,50 @@ fn link_of(work: &[u8], p: usize, q: usize) -> Link
     }
 }
 
-// The key of two nodes of one hole each: it orders two holes by their squared distance, then by the first of them, then by the second.
-// D is taken between twice the centres, so that of two holes it is four times their squared distance.
-fn key_of(work: &[u8], p: usize, q: usize) -> usize
+// The key of nodes p and q, of one hole each, that are far apart: it orders two holes by their squared distance, then by the first of them, then by
+// the second.
+fn key_of(work: &[u8], p: usize, q: usize, far: usize) -> usize
     requires { ⌜ NodeOn (now work) 2 p ⌝ }
-    requires { ⌜ q < 2048 ⌝ }
-    ensures { λ r. ⌜ KeyOf (now (work .entry)) p q r ⌝ }
+    requires { ⌜ (q < 2048) × (far < 51539607552) ⌝ }
+    ensures { λ r. ⌜ KeyOf (now (work .entry)) p q far r ⌝ }
 {
-    let far = field::distance(work, 2, p, q) / 4;
     let link = link_of(work, p, q);
     1048576 * far + 1024 * link.first + link.second
 }
 
-// The key of pair k.
-fn pair_key(work: &[u8], list: &[u8], k: usize) -> usize
+// The lesser of a key and that of nodes p and q, of one hole each. Most pairs are farther apart than the nearest so far, and many on the first axis
+// alone; so that axis is looked at first, then the distance, and the link only where neither tells.
+fn lesser_of(work: &[u8], p: usize, q: usize, least: usize) -> usize
+    requires { ⌜ NodeOn (now work) 2 p ⌝ }
+    requires { ⌜ q < 2048 ⌝ }
+    ensures { λ r. ⌜ NodesLesser (now (work .entry)) p q least r ⌝ }
+{
+    let wide = field::squared(field::lows_apart(work, 0, p, q));
+    if least <= 1048576 * wide {
+        return least;
+    }
+    let far = field::corners_apart(work, 2, p, q);
+    if least <= 1048576 * far {
+        return least;
+    }
+    field::lesser(least, key_of(work, p, q, far))
+}
+
+// The lesser of a key and that of pair k.
+fn lesser_key(work: &[u8], list: &[u8], k: usize, least: usize) -> usize
     requires { ⌜ PairThere (now work) (now list) k ⌝ }
-    ensures { λ r. ⌜ PairKey (now (work .entry)) (two-numbers-at (now (list .entry)) (4 * k)) r ⌝ }
+    requires { ⌜ least ≤ no-key ⌝ }
+    ensures { λ r. ⌜ PairLesser (now (work .entry)) (two-numbers-at (now (list .entry)) (4 * k)) least r ⌝ }
 {
     let p = words::get16(list, 4 * k);
     let q = words::get16(list, 4 * k + 2);
     if slate::cell(work, slate::HOLES, p) != 1 {
-        return NO_KEY;
+        return least;
     }
     if slate::cell(work, slate::HOLES, q) != 1 {
-        return NO_KEY;
+        return least;
     }
-    key_of(work, p, q)
+    lesser_of(work, p, q, least)
 }
 
 // The least key of m pairs.
@@ -93,7 +111,7 @@ fn least_key(work: &[u8], list: &[u8], m: usize) -> usize
 {
     let mut least = NO_KEY;
     for k in 0..m {
-        least = field::lesser(least, pair_key(work, list, k));
+        least = lesser_key(work, list, k, least);
     }
     least
 }

@@ -2,26 +2,26 @@
 use mathlib.Core.Path.{_≡_}
 use mathlib.Core.List.{List}
 use Prim.Native.Nat.{ℕ, _≤_, _+_, _-_, _*_}
-use native.Mathlib.Omega.{arith}
 use borrow.Author.Needs.{needs}
-use Rattle.paper.specs.Field.{distance²}
 use Rattle.paper.specs.Separation.{C, D}
 use Rattle.field.specs.Boxes.{boxOn}
-use Rattle.field.specs.Sides.{gapOn, Squared}
-use Rattle.field.proofs.Axis.{box-none, D-more}
+use Rattle.field.specs.Sides.{twice-centre, gapOn, Squared}
+use Rattle.field.proofs.Axis.{sum-none, sum-more, sum-all}
 use Rattle.field.proofs.distance.Statement.{statement}
 use Rattle.field.proofs.distance.Tie as tie
 
 start : (w : List ℕ) (j k : ℕ) → 0 ≡ D (boxOn w 0 j) (boxOn w 0 k)
-unfolding D C distance²
-start w j k = rw (box-none w j)
+unfolding D C
+start = sum-none twice-centre
 
-turn : (w : List ℕ) (j k x sum r q : ℕ) → sum ≡ D (boxOn w x j) (boxOn w x k) → r ≡ gapOn w j k x → Squared r q
+turn : (w : List ℕ) (j k x sum r q : ℕ) → sum ≡ D (boxOn w x j) (boxOn w x k) → r ≡ gapOn twice-centre w j k x → Squared r q
     → sum + q ≡ D (boxOn w (x + 1) j) (boxOn w (x + 1) k)
-turn w j k x sum r q e f s = rw (D-more w x j k, e, s .is, f)
+unfolding D C
+turn = sum-more twice-centre
 
 done : (w : List ℕ) (j k x d sum : ℕ) → sum ≡ D (boxOn w x j) (boxOn w x k) → x ≤ d → d ≤ x → sum ≡ D (boxOn w d j) (boxOn w d k)
-done w j k x d sum e l m = let f : x ≡ d = omega arith in rw f at e
+unfolding D C
+done = sum-all twice-centre
 
 ruleset all = (start, turn, done, needs)
 

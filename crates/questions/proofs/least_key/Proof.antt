@@ -17,11 +17,8 @@ abbrev μ-loop : tie.MeasureT-loop
 loop-holds : tie.Need-loop-holds Inv-loop μ-loop
 loop-holds c = search all
 
-pair-key-requires : tie.Need-pair-key-requires Inv-loop μ-loop
-pair-key-requires c κs = search all
-
-lesser-requires : tie.Need-lesser-requires Inv-loop μ-loop
-lesser-requires c κs = search all
+lesser-key-requires : tie.Need-lesser-key-requires Inv-loop μ-loop
+lesser-key-requires c κs = search all
 
 add-k : tie.Need-add-k Inv-loop μ-loop
 add-k c = search all
@@ -36,4 +33,4 @@ returns : tie.Need-returns Inv-loop μ-loop
 returns c = search all
 
 pub least-key-spec : {M : Type 1} → statement M
-least-key-spec = tie.close (tie.spec Inv-loop μ-loop loop-holds pair-key-requires lesser-requires add-k loop-less loop-again returns)
+least-key-spec = tie.close (tie.spec Inv-loop μ-loop loop-holds lesser-key-requires add-k loop-less loop-again returns)

@@ -1,8 +1,8 @@
 -- One case for each return. Assumes nothing.
 use borrow.Author.Needs.{needs}
 use Rattle.questions.proofs.Keys.{left-many, right-many, both-one}
-use Rattle.questions.proofs.pair_key.Statement.{statement}
-use Rattle.questions.proofs.pair_key.Tie as tie
+use Rattle.questions.proofs.lesser_key.Statement.{statement}
+use Rattle.questions.proofs.lesser_key.Tie as tie
 
 ruleset all = (needs)
 
@@ -33,11 +33,11 @@ cell-requires-2 c κs = search all
 returns-2 : tie.Need-returns-2
 returns-2 c = search right-many
 
-key-of-requires : tie.Need-key-of-requires
-key-of-requires c κs = search all
+lesser-of-requires : tie.Need-lesser-of-requires
+lesser-of-requires c κs = search all
 
 returns-3 : tie.Need-returns-3
 returns-3 c = search both-one
 
-pub pair-key-spec : {M : Type 1} → statement M
-pair-key-spec = tie.close (tie.spec mul-get16 get16-requires mul-get16-2 add-get16 get16-requires-2 cell-requires returns cell-requires-2 returns-2 key-of-requires returns-3)
+pub lesser-key-spec : {M : Type 1} → statement M
+lesser-key-spec = tie.close (tie.spec mul-get16 get16-requires mul-get16-2 add-get16 get16-requires-2 cell-requires returns cell-requires-2 returns-2 lesser-of-requires returns-3)
