@@ -14,7 +14,7 @@ use Rattle.paper.specs.declared.Checked.{Checked}
 use Rattle.paper.specs.declared.Checked.the-variants as K
 use Rattle.paper.specs.declared.Closest.{Closest}
 use Rattle.paper.specs.declared.Closest.the-variants as L
-use Rattle.record.proofs.BuildAnswers.{drop-zeros}
+use Rattle.record.proofs.Outputs.{drop-zeros}
 use Rattle.lines.specs.Printing.{Put, refusal-line, count-lines, Holds}
 use Rattle.lines.proofs.Digits.{one-digit, more-digits, most-digits}
 

@@ -2,21 +2,19 @@
 -- lowest holes stand there. Assumes nothing.
 use mathlib.Core.Path.{_≡_, refl, sym, ap, _∙_}
 use mathlib.Core.Bool.{false}
-use mathlib.Core.List.{List, [], _∷_, _++_}
+use mathlib.Core.List.{List, [], _∷_}
 use Prim.Native.Nat.{ℕ, _+_, _*_, _<_, _≤_}
 use native.Mathlib.Omega.{arith}
 use lib.Dec.{leb}
-use lib.ListN.{length, drop, replicate, length-replicate}
+use lib.ListN.{length}
 use borrow.Author.Tests.{le-leb, lt-leb, lt-ltb, le-ltb}
 use Rattle.words.specs.Words.{Written}
-use Rattle.words.proofs.Laws.{written-all}
 use Rattle.paper.specs.Lists.{joined}
 use Rattle.paper.specs.Field.{listAt}
 use Rattle.paper.specs.Record.{two-numbers, two-numbers-at, pairs-in, viewOf}
 use Rattle.paper.specs.Rules.{node-count, pair-count}
 use Rattle.paper.specs.Refusals.{given}
 use Rattle.paper.specs.Questions.{link, links}
-use Rattle.paper.specs.Answers.{refuses, left-in, WritesLinks}
 use Rattle.paper.specs.declared.Refusal.{Refusal}
 use Rattle.paper.specs.declared.Refusal.the-variants as R
 use Rattle.paper.specs.declared.Wrote.{Wrote}
@@ -26,15 +24,15 @@ use Rattle.theory.specs.Trees.{Each}
 use Rattle.theory.proofs.RoundTrip.{view-pairs}
 use Rattle.record.specs.Cutting.{pairs-slice}
 use Rattle.record.specs.Inspecting.{InspectSays}
-use Rattle.record.specs.Building.{Blank}
+use Rattle.record.specs.Outputs.{Blank, Made}
 use Rattle.record.specs.declared.Parts.{Parts}
 use Rattle.record.specs.declared.Inspected.{Inspected}
 use Rattle.record.specs.declared.Inspected.the-variants.{Fine, Refused}
 use Rattle.record.proofs.Slices.{pairs-said}
 use Rattle.record.proofs.PairsMeant.{each-listed}
-use Rattle.record.proofs.BuildAnswers.{drop-zeros}
+use Rattle.record.proofs.Outputs.{refused-blank, finished, made-there}
 use Rattle.questions.specs.Asking.{Known}
-use Rattle.questions.specs.Linking.{linkOn, linksOn, LinksFit, LinksMade}
+use Rattle.questions.specs.Linking.{linkOn, linksOn, LinksFit}
 use Rattle.questions.proofs.Meaning.{left-node, right-node, pairs-there}
 use Rattle.questions.proofs.LinkLaws.{length-links}
 use Rattle.questions.proofs.Replies.{a-is, b-is}
@@ -42,11 +40,6 @@ use Rattle.questions.proofs.Replies.{a-is, b-is}
 joined-same : {A : Type 0} (f g : A → List ℕ) (xs : List A) → Each (λ x. f x ≡ g x) xs → joined f xs ≡ joined g xs
 joined-same f g [] e = refl
 joined-same f g (x ∷ xs) e = rw (e .0, joined-same f g xs (e .1))
-
--- a refused output is as it was, all zero
-none-made : {bytes out : List ℕ} {w : ℕ} (x : Refusal) → Blank out → links bytes w (length out) ≡ refuses x → LinksMade bytes w out out (W.Refused x)
-unfolding left-in
-none-made x blank q = record { answer = sym (rw q refl); output = rw q (blank .zeros) }
 
 module _ {bytes w : List ℕ} {p : Parts} (k : Known bytes w p) where
   m-is : pair-count (viewOf bytes) ≡ p .m
@@ -72,18 +65,18 @@ module _ {bytes w : List ℕ} {p : Parts} (k : Known bytes w p) where
   links-fit e l = record { there = pairs-there k e; room = l }
 
   module _ {out : List ℕ} (blank : Blank out) where
-    pub links-low : p .a ≤ 4 * p .b → LinksMade bytes (length w) out out (W.Refused (R.Low (256 * p .a + p .b)))
+    pub links-low : p .a ≤ 4 * p .b → Made (links bytes) (length w) out out (W.Refused (R.Low (256 * p .a + p .b)))
     unfolding links
-    links-low l = none-made _ blank (rw (k .taken, a-is k, b-is k) (stop _ (le-leb _ _ l) (R.Low (256 * p .a + p .b)) _))
+    links-low l = refused-blank _ blank (rw (k .taken, a-is k, b-is k) (stop _ (le-leb _ _ l) (R.Low (256 * p .a + p .b)) _))
 
     module _ (high : 4 * p .b < p .a) where
       ratio-high : leb (viewOf bytes .a) (4 * viewOf bytes .b) ≡ false
       ratio-high = rw (a-is k, b-is k) (lt-leb _ _ high)
 
-      pub links-short : length out < 4 * p .m → LinksMade bytes (length w) out out (W.Refused (R.Room (4 * p .m)))
+      pub links-short : length out < 4 * p .m → Made (links bytes) (length w) out out (W.Refused (R.Room (4 * p .m)))
       unfolding links
       links-short l =
-          none-made _ blank
+          refused-blank _ blank
           (rw (k .taken, m-is)
           (pass _ ratio-high (R.Low (256 * viewOf bytes .a + viewOf bytes .b)) _ ∙ stop _ (lt-ltb _ _ l) (R.Room (4 * p .m)) _))
 
@@ -95,33 +88,20 @@ module _ {bytes w : List ℕ} {p : Parts} (k : Known bytes w p) where
           (pass _ ratio-high (R.Low (256 * viewOf bytes .a + viewOf bytes .b)) _ ∙ pass _ (le-ltb _ _ l) (R.Room (4 * p .m)) _ ∙ passed _)
 
       pub links-made : {ps out′ : List ℕ} → 4 * p .m ≤ length out → ps ≡ pairs-slice bytes → Written out out′ 0 (linksOn w ps (p .m))
-          → LinksMade bytes (length w) out out′ (W.Bytes (4 * p .m))
-      unfolding left-in
-      links-made {ps} {out′} l e s =
-          let its = linksOn w ps (p .m) in
+          → Made (links bytes) (length w) out out′ (W.Bytes (4 * p .m))
+      links-made {ps} l e s =
           let size = length-links w ps (p .m) in
-          let q : links bytes (length w) (length out) ≡ given its = rw (links-are e) (asked-links l) in
-          let zeros = ap (λ (z : List ℕ). drop (length its) z) (blank .zeros) ∙ drop-zeros (length its) (length out) in
-          record {
-            answer = rw (q, size) refl;
-            output = rw q (written-all s (omega arith) ∙ ap (λ (z : List ℕ). its ++ z) zeros);
-          }
+          finished blank (rw (links-are e) (asked-links l)) (sym size) (omega arith) s
 
--- from the inspection to the wiped slate
+-- from the inspection to the answer
 module _ (bytes old new : List ℕ) {f : Inspected} (s : InspectSays bytes old new f) where
-  pub links-refused : {x : Refusal} {out : List ℕ} → f ≡ Refused x → Blank out → LinksMade bytes (length old) out out (W.Refused x)
+  pub links-refused : {x : Refusal} {out : List ℕ} → f ≡ Refused x → Blank out → Made (links bytes) (length old) out out (W.Refused x)
   unfolding links
   links-refused {x} q blank =
       let t : InspectSays bytes old new (Refused x) = rw q at s in
-      none-made x blank (rw (t .refused) refl)
+      refused-blank x blank (rw (t .refused) refl)
 
-  pub links-there : {p : Parts} {out out′ : List ℕ} {r : Wrote} → f ≡ Fine p → LinksMade bytes (length new) out out′ r → LinksMade bytes (length old) out out′ r
+  pub links-there : {p : Parts} {out out′ : List ℕ} {r : Wrote} → f ≡ Fine p → Made (links bytes) (length new) out out′ r → Made (links bytes) (length old) out out′ r
   links-there {p} q l =
       let t : InspectSays bytes old new (Fine p) = rw q at s in
-      rw (t .len) at l
-
-pub links-wiped : (bytes old mid out : List ℕ) {new z out′ : List ℕ} {r : Wrote} → z ≡ replicate (length out) 0 → length mid ≡ length old
-    → LinksMade bytes (length old) z out′ r → new ≡ replicate (length mid) 0 → WritesLinks bytes r old new out out′
-links-wiped bytes old mid out {z} e l m x =
-    let n : length z ≡ length out = ap length e ∙ length-replicate (length out) 0 in
-    record { answer = rw n at (m .answer); wiped = rw l at x; output = rw n at (m .output) }
+      made-there (t .len) l

@@ -1,5 +1,4 @@
 -- The links of the pairs in a list of bytes, by the lowest holes on the slate, and the output that they are written into. Assumes nothing.
-use mathlib.Core.Path.{_≡_}
 use mathlib.Core.List.{List}
 use Prim.Native.Nat.{ℕ, _+_, _*_, _≤_, min, max}
 use lib.ListN.{length}
@@ -8,9 +7,6 @@ use Rattle.slate.specs.Slate.{cell}
 use Rattle.paper.specs.Lists.{joined}
 use Rattle.paper.specs.Field.{listAt}
 use Rattle.paper.specs.Record.{two-numbers, two-numbers-at}
-use Rattle.paper.specs.Questions.{links}
-use Rattle.paper.specs.Answers.{wrote, counted, left-in}
-use Rattle.paper.specs.declared.Wrote.{Wrote}
 use Rattle.questions.specs.Nearest.{PairThere, PairsThere}
 
 -- the link of a pair
@@ -29,8 +25,3 @@ pub record LinkFits (out w ps : List ℕ) (k : ℕ) : Type 0 where
 pub record LinksFit (out w ps : List ℕ) (m : ℕ) : Type 0 where
   pub there : PairsThere w ps m
   pub room : 4 * m ≤ length out
-
--- what the call says, and what it leaves in an output that was all zero; w is the length of the work area
-pub record LinksMade (bytes : List ℕ) (w : ℕ) (out out′ : List ℕ) (r : Wrote) : Type 0 where
-  pub answer : wrote r ≡ counted (links bytes w (length out))
-  pub output : out′ ≡ left-in (length out) (links bytes w (length out))

@@ -7,13 +7,13 @@ ghost use lib.ListN.{length};
 ghost use Rattle.words.specs.Words.{Written};
 ghost use Rattle.paper.specs.Field.{square};
 ghost use Rattle.paper.specs.Record.{two-numbers, two-numbers-at};
-ghost use Rattle.paper.specs.Questions.{closest, pitch};
+ghost use Rattle.paper.specs.Questions.{closest, pitch, links};
 ghost use Rattle.paper.specs.Answers.{found, pitched, FindsClosest, TestsPitch, WritesLinks};
 ghost use Rattle.field.specs.Boxes.{NodeOn};
-ghost use Rattle.record.specs.Building.{Blank};
+ghost use Rattle.record.specs.Outputs.{Blank, Made};
 ghost use Rattle.questions.specs.Nearest.{no-key, Linked, KeyOf, NodesLesser, PairLesser, PairThere, PairsThere, LeastKey, Wanted, NearestKey};
 ghost use Rattle.questions.specs.Asking.{Known, LooksOn, Looks};
-ghost use Rattle.questions.specs.Linking.{linkOn, linksOn, LinkFits, LinksFit, LinksMade};
+ghost use Rattle.questions.specs.Linking.{linkOn, linksOn, LinkFits, LinksFit};
 use paper::Checked;
 use paper::Closest;
 use paper::Pitch;
@@ -252,7 +252,7 @@ fn put_links(out: &mut [u8], work: &[u8], list: &[u8], m: usize)
 fn links_of(bytes: &[u8], work: &[u8], p: Parts, out: &mut [u8]) -> Wrote
     requires { ⌜ Known (now bytes) (now work) p ⌝ }
     requires { ⌜ Blank (now out) ⌝ }
-    ensures { λ r. ⌜ LinksMade (now (bytes .entry)) (length (now (work .entry))) (now (out .entry)) (now (out .exit)) r ⌝ }
+    ensures { λ r. ⌜ Made (links (now (bytes .entry))) (length (now (work .entry))) (now (out .entry)) (now (out .exit)) r ⌝ }
 {
     if p.a <= 4 * p.b {
         return Wrote::Refused(Refusal::Low((256 * p.a + p.b) as u64));
@@ -269,7 +269,7 @@ fn links_of(bytes: &[u8], work: &[u8], p: Parts, out: &mut [u8]) -> Wrote
 // The links, before the slate is wiped.
 fn links_on(bytes: &[u8], work: &mut [u8], out: &mut [u8]) -> Wrote
     requires { ⌜ Blank (now out) ⌝ }
-    ensures { λ r. ⌜ LinksMade (now (bytes .entry)) (length (now (work .entry))) (now (out .entry)) (now (out .exit)) r ⌝ }
+    ensures { λ r. ⌜ Made (links (now (bytes .entry))) (length (now (work .entry))) (now (out .entry)) (now (out .exit)) r ⌝ }
 {
     match record::inspect(bytes, work) {
         Inspected::Refused(x) => Wrote::Refused(x),

@@ -1,21 +1,18 @@
 -- What the builder answers, and what it leaves in an output that was all zero, when none of its refusals but ROOM can be due. Assumes nothing.
 use mathlib.Core.Path.{_≡_, refl, sym, ap, ap₂, _∙_}
 use mathlib.Core.Bool.{Bool, true, false, not}
-use mathlib.Core.List.{List, [], _∷_, _++_}
-use Prim.Native.Nat.{ℕ, zero, suc, _+_, _*_, _-_, _/_, _%_, _≤_, _<_}
+use mathlib.Core.List.{List, [], _∷_}
+use Prim.Native.Nat.{ℕ, zero, _+_, _*_, _-_, _/_, _%_, _≤_, _<_}
 use native.Mathlib.Omega.{arith}
-use lib.ListN.{length, drop, replicate, length-replicate}
+use lib.ListN.{length, replicate}
 use borrow.Author.Tests.{not-true, not-false}
 use Rattle.words.specs.Words.{Bytes, Written}
-use Rattle.words.proofs.Laws.{written-all}
 use Rattle.paper.specs.Field.{holesAt, Ratio, ratio-ok, least-work}
 use Rattle.paper.specs.Record.{whole, written, built}
 use Rattle.paper.specs.Refusals.{number, value, build, refused, given}
 use Rattle.paper.specs.Rules.{Repeats}
-use Rattle.paper.specs.Answers.{left-in, Builds}
 use Rattle.paper.specs.declared.Refusal.{Refusal}
 use Rattle.paper.specs.declared.Refusal.the-variants as R
-use Rattle.paper.specs.declared.Wrote.{Wrote}
 use Rattle.paper.specs.declared.Wrote.the-variants as W
 use Rattle.paper.proofs.ListLaws.{both}
 use Rattle.theory.specs.Conditions.{First, here, later, all, _also_}
@@ -30,19 +27,10 @@ use Rattle.field.specs.Buckets.{Searched}
 use Rattle.field.specs.declared.Found.{Found}
 use Rattle.field.specs.declared.Found.the-variants.{At, Nothing}
 use Rattle.pairs.specs.Listing.{Listed, pairsOn}
-use Rattle.record.specs.Building.{Buildable, Blank, Drawn, front, Made}
+use Rattle.record.specs.Building.{Buildable, Drawn, front}
+use Rattle.record.specs.Outputs.{Blank, Made}
+use Rattle.record.proofs.Outputs.{refused-zeroed, refused-blank, finished}
 use Rattle.record.proofs.BuildCases.{record-done}
-
-pub drop-zeros : (k o : ℕ) → drop {A = ℕ} k (replicate o 0) ≡ replicate (o - k) 0
-drop-zeros zero o =
-    let e : o ≡ o - 0 = omega arith in
-    ap (λ (n : ℕ). replicate n 0) e
-drop-zeros (suc k) zero =
-    let e : 0 ≡ 0 - suc k = omega arith in
-    ap (λ (n : ℕ). replicate n 0) e
-drop-zeros (suc k) (suc o) =
-    let e : o - k ≡ suc o - suc k = omega arith in
-    drop-zeros k o ∙ ap (λ (n : ℕ). replicate n 0) e
 
 -- a field that none of the first six refusals is due for
 module _ (c : List ℕ) (a b w o : ℕ) (f : Buildable c a b (length c / 4)) (enough : least-work ≤ w) where
@@ -56,8 +44,8 @@ module _ (c : List ℕ) (a b w o : ℕ) (f : Buildable c a b (length c / 4)) (en
       (later (λ y d. d .0 (f .ratio))
       (later (λ y d. f .distinct (d .holds .other) y (d .holds .lower) (d .within) (d .holds .place)) r))))))
 
-  finished : length (its-record c a b w o) ≤ o → build c a b w o ≡ given (its-record c a b w o)
-  finished l =
+  gives : length (its-record c a b w o) ≤ o → build c a b w o ≡ given (its-record c a b w o)
+  gives l =
       build-gives c a b w o _ .1 (
         (λ y d. omega (arith, d .0))
             also (λ y d. d .0 (omega (arith, f .even)))
@@ -94,57 +82,46 @@ module _ {c : List ℕ} {a b n : ℕ} (f : Buildable c a b n) where
     r-is : r ≡ length (written (built a b (holesAt 2 c 0 (length c / 4))))
     r-is = rw count-is (l .next ∙ sym (length-is d))
 
-    pub no-room : {out″ : List ℕ} → length out′ < r → out″ ≡ replicate (length out′) 0 → Made c a b (length w) out out″ (W.Refused (R.Room r))
-    unfolding left-in
+    pub no-room : {out″ : List ℕ} → length out′ < r → out″ ≡ replicate (length out′) 0 → Made (build c a b) (length w) out out″ (W.Refused (R.Room r))
     no-room h z =
         let q = passed c a b (length w) (length out) at-count enough (here refl (omega (arith, r-is, l .len), r-is)) in
-        record { answer = rw q refl; output = rw (q, ← l .len) z }
+        refused-zeroed (R.Room r) q (rw (← l .len) z)
 
     -- the place after the pairs, and so how many there are
     pub pairs-end : 6 + 12 * n ≤ r
     pairs-end = omega (arith, l .next)
 
     pub record-made : {out″ : List ℕ} → r ≤ length out′ → Written out′ out″ 0 (front c a b n ((r - (6 + 12 * n)) / 4) w)
-        → Made c a b (length w) out out″ (W.Bytes r)
-    unfolding left-in
-    record-made {out″} h s =
-        let its = written (built a b (holesAt 2 c 0 (length c / 4))) in
-        let q = finished c a b (length w) (length out) at-count enough (omega (arith, r-is, l .len)) in
-        let s′ : Written out out″ 0 its = rw count-is (record-done f d (omega (arith, l .next)) l h s) in
-        let t = written-all s′ (omega (arith, r-is, l .len)) in
-        let zeros = ap (λ (z : List ℕ). drop (length its) z) (blank .zeros) ∙ drop-zeros (length its) (length out) in
-        record { answer = rw (q, r-is) refl; output = rw q (t ∙ ap (λ (z : List ℕ). its ++ z) zeros) }
+        → Made (build c a b) (length w) out out″ (W.Bytes r)
+    record-made h s =
+        let room : length (its-record c a b (length w) (length out)) ≤ length out = omega (arith, r-is, l .len) in
+        finished blank (gives c a b (length w) (length out) at-count enough room) r-is room
+        (rw count-is (record-done f d (omega (arith, l .next)) l h s))
 
 -- each refusal that comes before the record is looked at: what was tested before it is not due
 module _ (c out : List ℕ) (a b w : ℕ) (blank : Blank out) where
-  refused-blank : {k x : ℕ} → build c a b w (length out) ≡ refused k x → left-in (length out) (build c a b w (length out)) ≡ out
-  unfolding left-in
-  refused-blank q = rw q (sym (blank .zeros))
-
   module _ (r : Refusal) (first : First (due.builder c a b w (length out)) (number r) (value r)) where
-    pub refusing : Made c a b w out out (W.Refused r)
-    refusing =
-        let q = build-refuses c a b w (length out) (number r) (value r) .1 first in
-        record { answer = rw q refl; output = sym (refused-blank q) }
+    pub refusing : Made (build c a b) w out out (W.Refused r)
+    refusing = refused-blank r blank (build-refuses c a b w (length out) (number r) (value r) .1 first)
 
-  pub refuse-work : w < 65_536 → Made c a b w out out (W.Refused R.Work)
+  pub refuse-work : w < 65_536 → Made (build c a b) w out out (W.Refused R.Work)
   refuse-work l = refusing R.Work (here refl (l, refl))
 
   module _ (enough : 65_536 ≤ w) where
-    pub refuse-odd : (length c % 4 ≡ 0 → ⊥) → Made c a b w out out (W.Refused (R.Odd (length c)))
+    pub refuse-odd : (length c % 4 ≡ 0 → ⊥) → Made (build c a b) w out out (W.Refused (R.Odd (length c)))
     refuse-odd o = refusing (R.Odd (length c)) (later (λ y d. omega (arith, d .0)) (here refl (o, refl)))
 
     module _ (even : length c % 4 ≡ 0) where
-      pub refuse-none : length c / 4 ≡ 0 → Made c a b w out out (W.Refused R.None)
+      pub refuse-none : length c / 4 ≡ 0 → Made (build c a b) w out out (W.Refused R.None)
       refuse-none z = refusing R.None (later (λ y d. omega (arith, d .0)) (later (λ y d. d .0 even) (here refl (z, refl))))
 
-      pub refuse-many : 1_024 < length c / 4 → Made c a b w out out (W.Refused (R.Many (length c / 4)))
+      pub refuse-many : 1_024 < length c / 4 → Made (build c a b) w out out (W.Refused (R.Many (length c / 4)))
       refuse-many l =
           refusing (R.Many (length c / 4))
           (later (λ y d. omega (arith, d .0)) (later (λ y d. d .0 even) (later (λ y d. omega (arith, d .0)) (here refl (l, refl)))))
 
       module _ (some : length c / 4 ≡ 0 → ⊥) (few : length c / 4 ≤ 1_024) {t : Bool} (tested : t ≡ ratio-ok a b) where
-        pub refuse-ratio : not t ≡ true → Made c a b w out out (W.Refused R.Ratio)
+        pub refuse-ratio : not t ≡ true → Made (build c a b) w out out (W.Refused R.Ratio)
         refuse-ratio e =
             refusing R.Ratio
             (later (λ y d. omega (arith, d .0))
@@ -158,7 +135,7 @@ module _ (c out : List ℕ) (a b w : ℕ) (blank : Blank out) where
           right = ratio-is a b .0 (sym tested ∙ not-false t e)
 
           pub refuse-twice : {u v : List ℕ} {s : Found} {i : ℕ} → Searched c 2 (length c / 4) u v s → s ≡ At i
-              → Made c a b w out out (W.Refused (R.Twice i))
+              → Made (build c a b) w out out (W.Refused (R.Twice i))
           refuse-twice {i} d q =
               let g : Finds (Repeats (holesAt 2 c 0 (length c / 4))) (length c / 4) (At i) = rw q at (d .found) in
               refusing (R.Twice i)
@@ -183,17 +160,3 @@ buildable c small a b {t} tested e d q even some few =
       distinct = λ i j l m e. g j (rw (length-holes 2 c 0 (length c / 4)) at m) (record { other = i; lower = l; place = e });
       small = small;
     }
-
--- an answer speaks of the work area's length alone
-pub made-there : {c out out′ : List ℕ} {a b v w : ℕ} {r : Wrote} → v ≡ w → Made c a b v out out′ r → Made c a b w out out′ r
-made-there e m = rw e at m
-
--- the call: a zeroed output is blank, and what was made in it is finished
-pub zeroed : (out : List ℕ) {z : List ℕ} → z ≡ replicate (length out) 0 → Blank z
-zeroed out {z} e = record { zeros = e ∙ ap (λ (n : ℕ). replicate n 0) (sym (ap length e ∙ length-replicate (length out) 0)) }
-
-pub all-built : (work mid out : List ℕ) {c work′ z out′ : List ℕ} {a b : ℕ} {r : Wrote} → z ≡ replicate (length out) 0 → length mid ≡ length work
-    → Made c a b (length work) z out′ r → work′ ≡ replicate (length mid) 0 → Builds c a b r work work′ out out′
-all-built work mid out {z} e l m x =
-    let n : length z ≡ length out = ap length e ∙ length-replicate (length out) 0 in
-    record { answer = rw n at (m .answer); wiped = rw l at x; output = rw n at (m .output) }

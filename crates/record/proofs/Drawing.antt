@@ -13,6 +13,7 @@ use Rattle.paper.specs.Separation.{far, side}
 use Rattle.paper.specs.Pairs.{pairs, pairsOf, numbers}
 use Rattle.paper.specs.Record.{entries, nodes-of, leaf-mark}
 use Rattle.paper.specs.Rules.{hole-count, node-count}
+use Rattle.paper.specs.Refusals.{build}
 use Rattle.theory.specs.Trees.{Met, leaves}
 use Rattle.theory.proofs.Reading.{length-holes, holes-flat}
 use Rattle.theory.proofs.Subtrees.{Sub}
@@ -28,7 +29,8 @@ use Rattle.tree.specs.Steps.{Summed}
 use Rattle.tree.specs.Planting.{FieldIn, Grown}
 use Rattle.tree.proofs.Views.{on-holes, same-tree}
 use Rattle.pairs.specs.Listing.{farOn, longOn, grownOn, Shapes, Boxes, ShapesPut}
-use Rattle.record.specs.Building.{Buildable, Sized, Drawn, Made}
+use Rattle.record.specs.Building.{Buildable, Sized, Drawn}
+use Rattle.record.specs.Outputs.{Made}
 use Rattle.paper.specs.declared.Wrote.{Wrote}
 
 module _ {c : List ℕ} {a b n : ℕ} (f : Buildable c a b n) (w : List ℕ) (grid : Grid w) (nodes : treeOn w n .nodes ≡ entries (treeOf (holesAt 2 c 0 n))) where
@@ -100,7 +102,7 @@ module _ {c : List ℕ} {a b n : ℕ} (f : Buildable c a b n) {old mid : List �
   planted = stands f mid (omega (arith, g .len)) (g .nodes)
 
   -- an answer speaks of the work area's length alone, which no step changes
-  pub made-as : {last out out′ : List ℕ} {r : Wrote} → Sized c a b n mid last → Made c a b (length last) out out′ r → Made c a b (length old) out out′ r
+  pub made-as : {last out out′ : List ℕ} {r : Wrote} → Sized c a b n mid last → Made (build c a b) (length last) out out′ r → Made (build c a b) (length old) out out′ r
   made-as {last} s m =
       let e : length last ≡ length old = s .shapes .kept .len ∙ s .summed .len ∙ g .len in
       rw e at m

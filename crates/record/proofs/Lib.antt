@@ -11,5 +11,6 @@ pub mod Takes
 pub mod Delivers
 pub mod PutLaws
 mod BuildCases
+pub mod Outputs
 pub mod BuildAnswers
 mod Drawing

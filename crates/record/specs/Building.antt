@@ -2,7 +2,7 @@
 use mathlib.Core.Path.{_≡_}
 use mathlib.Core.List.{List, [], _∷_, _++_, map}
 use Prim.Native.Nat.{ℕ, _+_, _*_, _≤_}
-use lib.ListN.{length, replicate}
+use lib.ListN.{length}
 use Rattle.words.specs.Words.{bytes, Bytes}
 use Rattle.slate.specs.Slate.{Grid}
 use Rattle.paper.specs.Lists.{joined}
@@ -10,9 +10,6 @@ use Rattle.paper.specs.Field.{Ratio, most-holes, holesAt}
 use Rattle.paper.specs.Tree.{treeOf}
 use Rattle.paper.specs.Pairs.{pairsOf, numbers}
 use Rattle.paper.specs.Record.{entries, nodes-of, two-numbers}
-use Rattle.paper.specs.Refusals.{build}
-use Rattle.paper.specs.Answers.{wrote, counted, left-in}
-use Rattle.paper.specs.declared.Wrote.{Wrote}
 use Rattle.theory.proofs.Fields.{Distinct}
 use Rattle.tree.specs.Standing.{treeOn}
 use Rattle.tree.specs.Steps.{Summed}
@@ -26,15 +23,6 @@ pub record Buildable (c : List ℕ) (a b n : ℕ) : Type 0 where
   pub ratio : Ratio a b
   pub distinct : Distinct (holesAt 2 c 0 n)
   pub small : Bytes c
-
--- an output that is all zero
-pub record Blank (out : List ℕ) : Type 0 where
-  pub zeros : out ≡ replicate (length out) 0
-
--- what a call says, and what it leaves in an output that was all zero; w is the length of the work area
-pub record Made (c : List ℕ) (a b w : ℕ) (out out′ : List ℕ) (r : Wrote) : Type 0 where
-  pub answer : wrote r ≡ counted (build c a b w (length out))
-  pub output : out′ ≡ left-in (length out) (build c a b w (length out))
 
 -- a tree that was summed up, and then what comparisons ask of its nodes was put beside it
 pub record Sized (c : List ℕ) (a b n : ℕ) (old new : List ℕ) : Type 0 where

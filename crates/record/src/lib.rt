@@ -7,13 +7,15 @@ ghost use Rattle.slate.specs.Columns.{FIRST, SECOND};
 ghost use Rattle.slate.specs.Slate.{cell, Grid};
 ghost use Rattle.paper.specs.Field.{Ratio, ratio-ok};
 ghost use Rattle.paper.specs.Record.{holes-part, nodes-part, pairs-part, two-numbers};
+ghost use Rattle.paper.specs.Refusals.{build};
 ghost use Rattle.paper.specs.Answers.{PartAt, Builds, Checks, HandsBack};
 ghost use Rattle.record.specs.Cutting.{CutSays, Begun, PartsOf, holes-slice, nodes-slice, pairs-slice};
 ghost use Rattle.record.specs.Inspecting.{InspectSays, TakeSays, Measured, Located};
 ghost use Rattle.words.specs.Words.{bytes, Written};
 ghost use Rattle.paper.specs.Lists.{joined};
 ghost use Rattle.tree.specs.Standing.{treeOn, Stands};
-ghost use Rattle.record.specs.Building.{HeadFits, NodesFit, head, node-bytes, front, Buildable, Sized, Drawn, Blank, Made, FrontFits};
+ghost use Rattle.record.specs.Building.{HeadFits, NodesFit, head, node-bytes, front, Buildable, Sized, Drawn, FrontFits};
+ghost use Rattle.record.specs.Outputs.{Blank, Made};
 ghost use Rattle.field.specs.Boxes.{HolesIn};
 use cover::Two;
 use field::Found;
@@ -347,7 +349,7 @@ fn write_record(holes: &[u8], a: usize, b: usize, n: usize, work: &[u8], out: &m
     requires { ⌜ Buildable (now holes) a b n ⌝ }
     requires { ⌜ Drawn (now holes) a b n (now work) ⌝ }
     requires { ⌜ Blank (now out) ⌝ }
-    ensures { λ r. ⌜ Made (now (holes .entry)) a b (length (now (work .entry))) (now (out .entry)) (now (out .exit)) r ⌝ }
+    ensures { λ r. ⌜ Made (build (now (holes .entry)) a b) (length (now (work .entry))) (now (out .entry)) (now (out .exit)) r ⌝ }
 {
     let end = pairs::list_pairs(work, out, 2, a, b, n, 6 + 12 * n);
     if out.len() < end {
@@ -374,7 +376,7 @@ fn fill(holes: &[u8], a: usize, b: usize, n: usize, work: &mut [u8], out: &mut [
     requires { ⌜ Buildable (now holes) a b n ⌝ }
     requires { ⌜ Grid (now work) ⌝ }
     requires { ⌜ Blank (now out) ⌝ }
-    ensures { λ r. ⌜ Made (now (holes .entry)) a b (length (now (work .entry))) (now (out .entry)) (now (out .exit)) r ⌝ }
+    ensures { λ r. ⌜ Made (build (now (holes .entry)) a b) (length (now (work .entry))) (now (out .entry)) (now (out .exit)) r ⌝ }
 {
     tree::plant(work, holes, 2, n);
     size_up(work, holes, a, b, n);
@@ -384,7 +386,7 @@ fn fill(holes: &[u8], a: usize, b: usize, n: usize, work: &mut [u8], out: &mut [
 // Builds into an output that is all zero: the refusals in document 01's order, then the record.
 fn build_clean(holes: &[u8], a: u64, b: u64, work: &mut [u8], out: &mut [u8]) -> Wrote
     requires { ⌜ Blank (now out) ⌝ }
-    ensures { λ r. ⌜ Made (now (holes .entry)) a b (length (now (work .entry))) (now (out .entry)) (now (out .exit)) r ⌝ }
+    ensures { λ r. ⌜ Made (build (now (holes .entry)) a b) (length (now (work .entry))) (now (out .entry)) (now (out .exit)) r ⌝ }
 {
     if work.len() < 65536 {
         return Wrote::Refused(Refusal::Work);

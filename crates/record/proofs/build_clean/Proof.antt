@@ -1,7 +1,8 @@
 -- The tests in document 01's order, one case for each return. Assumes nothing.
 use native.Mathlib.Omega.{arith}
 use borrow.Author.Needs.{needs}
-use Rattle.record.proofs.BuildAnswers.{refuse-work, refuse-odd, refuse-none, refuse-many, refuse-ratio, refuse-twice, buildable, made-there}
+use Rattle.record.proofs.BuildAnswers.{refuse-work, refuse-odd, refuse-none, refuse-many, refuse-ratio, refuse-twice, buildable}
+use Rattle.record.proofs.Outputs.{made-there}
 use Rattle.record.proofs.build_clean.Statement.{statement}
 use Rattle.record.proofs.build_clean.Tie as tie
 
