@@ -40,11 +40,6 @@ pub record KeyOf (w : List ℕ) (p q d r : ℕ) : Type 0 where
   pub is : r ≡ keyAt w p q d
   pub small : r < no-key
 
--- r is the lesser of b and the key of two nodes, which is below no-key
-pub record NodesLesser (w : List ℕ) (p q b r : ℕ) : Type 0 where
-  pub is : r ≡ min b (nodesKey w p q)
-  pub small : r < no-key
-
 -- the key of a pair
 unfoldable pub pairKey : List ℕ → ℕ × ℕ → ℕ
 pairKey w p =

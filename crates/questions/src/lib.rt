@@ -11,7 +11,7 @@ ghost use Rattle.paper.specs.Questions.{closest, pitch, links};
 ghost use Rattle.paper.specs.Answers.{found, pitched, FindsClosest, TestsPitch, WritesLinks};
 ghost use Rattle.field.specs.Boxes.{NodeOn};
 ghost use Rattle.record.specs.Outputs.{Blank, Made};
-ghost use Rattle.questions.specs.Nearest.{no-key, Linked, KeyOf, NodesLesser, PairLesser, PairThere, PairsThere, LeastKey, Wanted, NearestKey};
+ghost use Rattle.questions.specs.Nearest.{no-key, Linked, KeyOf, PairLesser, PairThere, PairsThere, LeastKey, Wanted, NearestKey};
 ghost use Rattle.questions.specs.Asking.{Known, LooksOn, Looks};
 ghost use Rattle.questions.specs.Linking.{linkOn, linksOn, LinkFits, LinksFit};
 use paper::Checked;
@@ -69,25 +69,27 @@ fn key_of(work: &[u8], p: usize, q: usize, far: usize) -> usize
     1048576 * far + 1024 * link.first + link.second
 }
 
-// The lesser of a key and that of nodes p and q, of one hole each. Most pairs are farther apart than the nearest so far, and many on the first axis
-// alone; so that axis is looked at first, then the distance, and the link only where neither tells.
-fn lesser_of(work: &[u8], p: usize, q: usize, least: usize) -> usize
+// The lesser of a key and that of nodes p and q. Their low corners are looked at before their holes: most are farther apart than the key says, and that
+// is no guess to a processor, where one hole or more is.
+fn lesser_near(work: &[u8], p: usize, q: usize, least: usize) -> usize
     requires { ⌜ NodeOn (now work) 2 p ⌝ }
-    requires { ⌜ q < 2048 ⌝ }
-    ensures { λ r. ⌜ NodesLesser (now (work .entry)) p q least r ⌝ }
+    requires { ⌜ (q < 2048) × (least ≤ no-key) ⌝ }
+    ensures { λ r. ⌜ PairLesser (now (work .entry)) (p, q) least r ⌝ }
 {
-    let wide = field::squared(field::lows_apart(work, 0, p, q));
-    if least <= 1048576 * wide {
-        return least;
-    }
     let far = field::corners_apart(work, 2, p, q);
     if least <= 1048576 * far {
+        return least;
+    }
+    if slate::cell(work, slate::HOLES, p) != 1 {
+        return least;
+    }
+    if slate::cell(work, slate::HOLES, q) != 1 {
         return least;
     }
     field::lesser(least, key_of(work, p, q, far))
 }
 
-// The lesser of a key and that of pair k.
+// The lesser of a key and that of pair k. Many pairs are far apart on the first axis alone.
 fn lesser_key(work: &[u8], list: &[u8], k: usize, least: usize) -> usize
     requires { ⌜ PairThere (now work) (now list) k ⌝ }
     requires { ⌜ least ≤ no-key ⌝ }
@@ -95,13 +97,10 @@ fn lesser_key(work: &[u8], list: &[u8], k: usize, least: usize) -> usize
 {
     let p = words::get16(list, 4 * k);
     let q = words::get16(list, 4 * k + 2);
-    if slate::cell(work, slate::HOLES, p) != 1 {
+    if least <= 1048576 * field::squared(field::lows_apart(work, 0, p, q)) {
         return least;
     }
-    if slate::cell(work, slate::HOLES, q) != 1 {
-        return least;
-    }
-    lesser_of(work, p, q, least)
+    lesser_near(work, p, q, least)
 }
 
 // The least key of m pairs.

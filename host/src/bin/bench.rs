@@ -125,15 +125,24 @@ fn median(mut times: Vec<f64>) -> f64 {
     times[times.len() / 2]
 }
 
-/// Medians of interleaved runs: 15, or fewer that take three seconds, but three at least.
+/// Medians of interleaved runs: 31, or fewer that take three seconds, but three at least. Every other turn goes the other way round, since what a run
+/// leaves in the processor's caches is the next one's.
 fn time(sheet: &Sheet, call: Call, work: usize) -> Costs {
     let mut buffers = Buffers::new(sheet);
     let mut times = [Vec::new(), Vec::new(), Vec::new()];
     let start = processor_seconds();
-    while times[0].len() < 3 || (times[0].len() < 15 && processor_seconds() - start < 3.0) {
-        times[0].push(seconds(|| buffers.run_library(sheet, call)));
-        times[1].push(seconds(|| buffers.run_baseline(sheet, call, work)));
-        times[2].push(seconds(|| buffers.run_library(sheet, Call::Check)));
+    for turn in 0..31 {
+        if turn >= 3 && processor_seconds() - start > 3.0 {
+            break;
+        }
+        for place in 0..3 {
+            let which = if turn % 2 == 0 { place } else { 2 - place };
+            times[which].push(seconds(|| match which {
+                0 => buffers.run_library(sheet, call),
+                1 => buffers.run_baseline(sheet, call, work),
+                _ => buffers.run_library(sheet, Call::Check),
+            }));
+        }
     }
     let [library, baseline, check] = times.map(median);
     Costs {
@@ -164,8 +173,8 @@ fn instructions(sheet: &Sheet, name: &str, side: &str) -> Option<f64> {
 
 /// The instructions of one call: a run that makes it less a run that makes none.
 fn count(sheet: &Sheet, name: &str) -> Option<Costs> {
-    let of =
-        |name, side| Some(instructions(sheet, name, side)? - instructions(sheet, name, "none")?);
+    let none = instructions(sheet, name, "none")?;
+    let of = |name, side| Some(instructions(sheet, name, side)? - none);
     Some(Costs {
         library: of(name, "library")?,
         baseline: of(name, "baseline")?,

@@ -1,6 +1,6 @@
--- One case for each return. Assumes nothing.
+-- The first axis tells, or the two nodes are looked at. Assumes nothing.
 use borrow.Author.Needs.{needs}
-use Rattle.questions.proofs.Keys.{left-many, right-many, both-one}
+use Rattle.questions.proofs.Keys.{axis-far, near}
 use Rattle.questions.proofs.lesser_key.Statement.{statement}
 use Rattle.questions.proofs.lesser_key.Tie as tie
 
@@ -21,23 +21,23 @@ add-get16 c = search all
 get16-requires-2 : tie.Need-get16-requires-2
 get16-requires-2 c κs = search all
 
-cell-requires : tie.Need-cell-requires
-cell-requires c κs = search all
+lows-apart-requires : tie.Need-lows-apart-requires
+lows-apart-requires c κs = search all
+
+squared-requires : tie.Need-squared-requires
+squared-requires c κs = search all
+
+mul-if1 : tie.Need-mul-if1
+mul-if1 c = search all
 
 returns : tie.Need-returns
-returns c = search left-many
+returns c = search axis-far
 
-cell-requires-2 : tie.Need-cell-requires-2
-cell-requires-2 c κs = search all
+lesser-near-requires : tie.Need-lesser-near-requires
+lesser-near-requires c κs = search all
 
 returns-2 : tie.Need-returns-2
-returns-2 c = search right-many
-
-lesser-of-requires : tie.Need-lesser-of-requires
-lesser-of-requires c κs = search all
-
-returns-3 : tie.Need-returns-3
-returns-3 c = search both-one
+returns-2 c = search near
 
 pub lesser-key-spec : {M : Type 1} → statement M
-lesser-key-spec = tie.close (tie.spec mul-get16 get16-requires mul-get16-2 add-get16 get16-requires-2 cell-requires returns cell-requires-2 returns-2 lesser-of-requires returns-3)
+lesser-key-spec = tie.close (tie.spec mul-get16 get16-requires mul-get16-2 add-get16 get16-requires-2 lows-apart-requires squared-requires mul-if1 returns lesser-near-requires returns-2)
