@@ -102,53 +102,51 @@ impl Buffers {
     }
 }
 
-/// Seconds, or instructions, of the library's call, of the baseline's, and of the library's check of the same record.
+/// Seconds, or instructions, of the library's call and of the baseline's, the ratio of the two, and the call's share of the library's check of the same
+/// record.
 #[derive(Clone, Copy)]
 struct Costs {
     library: f64,
     baseline: f64,
-    check: f64,
+    ratio: f64,
+    share: f64,
 }
 
-impl Costs {
-    fn ratio(self) -> f64 {
-        self.library / self.baseline
-    }
-
-    fn share(self) -> f64 {
-        self.library / self.check
-    }
+fn median(values: impl Iterator<Item = f64>) -> f64 {
+    let mut sorted: Vec<f64> = values.collect();
+    sorted.sort_by(f64::total_cmp);
+    sorted[sorted.len() / 2]
 }
 
-fn median(mut times: Vec<f64>) -> f64 {
-    times.sort_by(f64::total_cmp);
-    times[times.len() / 2]
-}
-
-/// Medians of interleaved runs: 31, or fewer that take three seconds, but three at least. Every other turn goes the other way round, since what a run
-/// leaves in the processor's caches is the next one's.
+/// Medians over turns of library, baseline and check: 201, or fewer that take two seconds, but three at least. A ratio is taken within a turn, since the
+/// machine's speed changes between turns; and every other turn goes the other way round, since what a run leaves in the processor's caches is the next
+/// one's.
 fn time(sheet: &Sheet, call: Call, work: usize) -> Costs {
     let mut buffers = Buffers::new(sheet);
-    let mut times = [Vec::new(), Vec::new(), Vec::new()];
+    let mut turns: Vec<[f64; 3]> = Vec::new();
     let start = processor_seconds();
-    for turn in 0..31 {
-        if turn >= 3 && processor_seconds() - start > 3.0 {
-            break;
-        }
+    while turns.len() < 3 || (turns.len() < 201 && processor_seconds() - start < 2.0) {
+        let mut turn = [0.0; 3];
         for place in 0..3 {
-            let which = if turn % 2 == 0 { place } else { 2 - place };
-            times[which].push(seconds(|| match which {
+            let which = if turns.len() % 2 == 0 {
+                place
+            } else {
+                2 - place
+            };
+            turn[which] = seconds(|| match which {
                 0 => buffers.run_library(sheet, call),
                 1 => buffers.run_baseline(sheet, call, work),
                 _ => buffers.run_library(sheet, Call::Check),
-            }));
+            });
         }
+        turns.push(turn);
     }
-    let [library, baseline, check] = times.map(median);
+    let of = |part: fn(&[f64; 3]) -> f64| median(turns.iter().map(part));
     Costs {
-        library,
-        baseline,
-        check,
+        library: of(|turn| turn[0]),
+        baseline: of(|turn| turn[1]),
+        ratio: of(|turn| turn[0] / turn[1]),
+        share: of(|turn| turn[0] / turn[2]),
     }
 }
 
@@ -175,10 +173,12 @@ fn instructions(sheet: &Sheet, name: &str, side: &str) -> Option<f64> {
 fn count(sheet: &Sheet, name: &str) -> Option<Costs> {
     let none = instructions(sheet, name, "none")?;
     let of = |name, side| Some(instructions(sheet, name, side)? - none);
+    let (library, baseline) = (of(name, "library")?, of(name, "baseline")?);
     Some(Costs {
-        library: of(name, "library")?,
-        baseline: of(name, "baseline")?,
-        check: of("check", "library")?,
+        library,
+        baseline,
+        ratio: library / baseline,
+        share: library / of("check", "library")?,
     })
 }
 
@@ -192,8 +192,8 @@ fn counted(sheet: &Sheet, name: &str, times: Costs) -> String {
             " {:.0} | {:.0} | {:.2} | {:.2} |",
             costs.library / 1e3,
             costs.baseline / 1e3,
-            costs.ratio(),
-            costs.share()
+            costs.ratio,
+            costs.share
         ),
         None => " - | - | - | - |".to_string(),
     }
@@ -213,7 +213,7 @@ const COUNTS: [&str; 4] = [
 
 /// A row for every call, layout and ratio.
 fn table(with_instructions: bool) {
-    println!("Fields of 1,024 holes, medians of interleaved runs, processor time of the thread.\n");
+    println!("Fields of 1,024 holes, medians over turns, ratios within a turn, processor time of the thread.\n");
     let mut columns = vec![
         "call",
         "field",
@@ -260,10 +260,10 @@ fn summary(rows: &[(&str, Costs)]) {
         let most = |part: fn(Costs) -> f64| of_call().map(part).fold(0.0, f64::max);
         println!(
             "| {name} | {count} | {:.2} | {:.2} | {:.2} | {:.2} |",
-            mean(Costs::ratio),
-            most(Costs::ratio),
-            mean(Costs::share),
-            most(Costs::share)
+            mean(|costs| costs.ratio),
+            most(|costs| costs.ratio),
+            mean(|costs| costs.share),
+            most(|costs| costs.share)
         );
     }
 }
@@ -284,8 +284,8 @@ fn rows(sheet: &Sheet, with_instructions: bool) -> Vec<(&'static str, Costs)> {
             sheet.pairs(),
             1e3 * times.library,
             1e3 * times.baseline,
-            times.ratio(),
-            times.share(),
+            times.ratio,
+            times.share,
             if with_instructions {
                 counted(sheet, name, times)
             } else {
@@ -339,7 +339,7 @@ fn growth_row(
         sheet.pairs(),
         1e3 * times.library,
         1e3 * times.baseline,
-        times.ratio(),
+        times.ratio,
         before.map_or("-".to_string(), |b| format!("{:.2}", times.library / b)),
         if with_instructions {
             counted(sheet, name, times)
