@@ -58,7 +58,7 @@ fn link_of(work: &[u8], p: usize, q: usize) -> Link
     }
 }
 
-// The key of nodes p and q, of one hole each, that are far apart: it orders two holes by their squared distance, then by the first of them, then by
+// The key of nodes p and q, of one hole each, for the squared distance far: it orders two holes by their distance, then by the first of them, then by
 // the second.
 fn key_of(work: &[u8], p: usize, q: usize, far: usize) -> usize
     requires { ⌜ NodeOn (now work) 2 p ⌝ }
@@ -69,8 +69,8 @@ fn key_of(work: &[u8], p: usize, q: usize, far: usize) -> usize
     1048576 * far + 1024 * link.first + link.second
 }
 
-// The lesser of a key and that of nodes p and q. Their low corners are looked at before their holes: most are farther apart than the key says, and that
-// is no guess to a processor, where one hole or more is.
+// The lesser of a key and that of nodes p and q. Their low corners are looked at before their holes: most nodes are farther apart than the key says,
+// which a processor foresees, and whether they have one hole it would have to guess.
 fn lesser_near(work: &[u8], p: usize, q: usize, least: usize) -> usize
     requires { ⌜ NodeOn (now work) 2 p ⌝ }
     requires { ⌜ (q < 2048) × (least ≤ no-key) ⌝ }

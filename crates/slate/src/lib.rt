@@ -17,7 +17,7 @@ pub const HOLES: usize = 2;
 // The lowest-numbered hole under a node.
 pub const LOWEST: usize = 3;
 
-// What a node reaches, in large cells, while pairs are listed; ranks are not asked for then.
+// How far a node reaches, in large cells and so in four columns, while pairs are listed; ranks and marks are not asked for then.
 pub const REACH: usize = 4;
 
 // The rank of the first hole under a node.
