@@ -9,6 +9,7 @@ use host::clock::seconds;
 use host::fields::{field, Layout};
 use host::foreign::{Cut, Draft};
 use host::{Answer, Noise};
+use std::hint::black_box;
 use std::time::Instant;
 
 const MOST_PAIRS: usize = 523_776;
@@ -99,13 +100,18 @@ fn counts_above_the_limits() {
     assert_eq!(answer, refused(3, 1_025));
 }
 
-/// The least time of a few checks through the library.
-fn cost(draft: &Draft) -> f64 {
-    let record = draft.bytes();
+/// How many times as long the library checks one record as another, the least of a few turns each.
+fn times_as_long(one: &Draft, other: &Draft) -> f64 {
+    let records = [one.bytes(), other.bytes()];
     let mut work = vec![0; WORK];
-    (0..3)
-        .map(|_| seconds(|| drop(host::check(&record, &mut work))))
-        .fold(f64::INFINITY, f64::min)
+    let mut least = [f64::INFINITY; 2];
+    for _ in 0..5 {
+        for (record, least) in records.iter().zip(&mut least) {
+            let time = seconds(|| _ = black_box(host::check(record, &mut work)));
+            *least = least.min(time);
+        }
+    }
+    least[0] / least[1]
 }
 
 /// No record costs more than 20 times an honest one of as many pairs, whatever it says.
@@ -113,10 +119,11 @@ fn cost(draft: &Draft) -> f64 {
 fn no_record_is_slow() {
     let mut rig = Rig::new(25);
     let honest = full(&mut rig, Layout::Leaning, 64, 1);
-    let for_a_pair = cost(&honest) / MOST_PAIRS as f64;
+    assert_eq!(honest.pairs.len(), MOST_PAIRS);
     let mut hostile = |what: &str, draft: &Draft, number: u64| {
         assert_eq!(check(&mut rig, what, draft).number, number, "{what}");
-        let times = cost(draft) / (for_a_pair * draft.pairs.len() as f64);
+        let share = draft.pairs.len() as f64 / MOST_PAIRS as f64;
+        let times = times_as_long(draft, &honest) / share;
         println!("{what}: {times:.1} times an honest record");
         assert!(times < 20.0, "{what}: {times:.1} times an honest record");
     };
@@ -146,6 +153,31 @@ fn no_record_is_slow() {
     hostile("a tree 1,023 deep", &deep, 0);
     deep.pairs[0] = deep.pairs[1];
     hostile("a tree 1,023 deep with a doubled pair", &deep, 14);
+}
+
+/// Holes that all fall into one bucket where repeats are looked for (37 x + y is a multiple of 2,039), so that each is compared with every other: no 20
+/// times the cost of the same field turned over, whose holes are spread.
+#[test]
+fn holes_in_one_bucket() {
+    let mut rig = Rig::new(27);
+    let draft = |turned: bool| {
+        let places = (0..1_024u32).map(|x| {
+            let y = (2_039 - 37 * x % 2_039) % 2_039;
+            [x, if turned { 2_038 - y } else { y }]
+        });
+        let list: Vec<u8> = places
+            .flatten()
+            .flat_map(|c| (c as u16).to_be_bytes())
+            .collect();
+        let record = baseline::build(&list, 3, 1, WORK, usize::MAX);
+        Draft::of_record(&record.expect("a field within the limits"))
+    };
+    let (together, spread) = (draft(false), draft(true));
+    let answer = check(&mut rig, "holes in one bucket", &together);
+    assert_eq!(answer.number, 0);
+    let times = times_as_long(&together, &spread);
+    println!("holes in one bucket: {times:.1} times the field turned over");
+    assert!(times < 20.0, "{times:.1} times the field turned over");
 }
 
 /// The record of a uniform field of 1,024 holes.
