@@ -148,12 +148,17 @@ second-table =
     ∷ (pitching (record-of (at 7 9 ∷ []) 1 1) 9, 1 ∷ 1 ∷ [])
     -- one hole is refused before the ratio
     ∷ (closely (record-of (at 7 9 ∷ []) 1 1), 0 ∷ 15 ∷ 0 ∷ [])
+    -- of pairs as near as 0, 3 and 1, 2 and 4, 5 the one with the least first hole, whatever the second
+    ∷ (closely (record-of (at 0 0 ∷ at 90 0 ∷ at 91 0 ∷ at 1 0 ∷ at 50 0 ∷ at 51 0 ∷ []) 3 1), 1 ∷ 0 ∷ 3 ∷ 1 ∷ [])
     -- links: the smaller number first, whichever side it is on
     ∷ (linking (record-of (at 10 0 ∷ at 0 0 ∷ []) 5 1), 1 ∷ 0 ∷ 0 ∷ 0 ∷ 1 ∷ [])
+    -- of a side with two holes the lowest-numbered, wherever it stands
+    ∷ (linking (record-of (at 1 0 ∷ at 0 0 ∷ at 100 0 ∷ []) 5 1), 1 ∷ 0 ∷ 0 ∷ 0 ∷ 2 ∷ 0 ∷ 0 ∷ 0 ∷ 1 ∷ [])
     -- and the ratio must be above 4
     ∷ (linking (record-of (at 10 0 ∷ at 0 0 ∷ []) 4 1), 0 ∷ 16 ∷ 1_025 ∷ [])
-    -- the pair list stands after its count
+    -- the pair list stands after its count; a refused record's, here P7's, is the empty part at the start
     ∷ (pair-list p1-record, 30 ∷ 4 ∷ [])
+    ∷ (pair-list (set (take 30 p1-record) 29 0), 0 ∷ 0 ∷ [])
     -- the program's example, and one hole
     ∷ (program p1-record, text "points 2\npairs 1\nclosest 0 1 100\n")
     ∷ (program (record-of (at 7 9 ∷ []) 1 1), text "points 1\npairs 0\nclosest none\n")
