@@ -1,5 +1,7 @@
 // The covering: the least two holes that are not covered by exactly one pair of a record.
 // A filter passes over the holes that are covered exactly once with every other; any other hole costs at most m + n steps, whatever the record says.
+#![tactic(auto)]
+
 ghost use Rattle.std.specs.Prelude.{◌≡◌, ◌+◌, ◌-◌, ◌^◌, ◌<◌, ◌≤◌, min};
 ghost use Rattle.cover.specs.Spans.{spans, Ready, Covering};
 ghost use Rattle.cover.specs.Rows.{pair_at, spanning, meeting, Open, SpanOn, PairSpans, Counting, OneMore, Ranks, Emptied};

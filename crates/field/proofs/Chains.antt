@@ -63,8 +63,8 @@ module _ {s w : List ℕ} {d i : ℕ} (h : Chained s d w i) where
       }
 
   module _ {c : ℕ} (a : Ahead d s w i c) (l : 0 < c) where
-    pub hole-ahead : HoleIn s d i → HoleIn s d (c - 1)
-    hole-ahead p = hole_lower p (omega (arith, a.low))
+    pub hole_ahead : HoleIn s d i → HoleIn s d (c - 1)
+    hole_ahead p = hole_lower p (omega (arith, a.low))
 
     pub met : (t : Bool) → t ≡ at_one d s (c - 1) i → t ≡ true → true ≡ again d s i
     met t e f = repeat d s i (c - 1) (omega (arith, a.low)) (sym e ∙ f)

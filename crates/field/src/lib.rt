@@ -1,5 +1,7 @@
 // Holes and boxes: a hole's coordinates in a list of bytes, holes that stand at one place, the box of a node on the slate, and separation.
 // Everything is over d coordinates, one to three of them.
+#![tactic(auto)]
+
 ghost use Rattle.std.specs.Prelude.{◌≡◌, ◌&&◌, not, ◌+◌, ◌*◌, ◌<◌, ◌≤◌, min, max, eqb, leb, get_or};
 ghost use Rattle.words.specs.Words.{Read};
 ghost use Rattle.slate.specs.Slate.{Grid};

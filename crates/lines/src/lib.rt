@@ -1,5 +1,7 @@
 // The lines that the program prints, as bytes: document 01's "Program". `paper` says what they are; here they are written into an output,
 // for what was found of a record, and for the bytes of an input.
+#![tactic(auto)]
+
 ghost use Rattle.std.specs.Prelude.{◌++◌, ◌+◌, ◌≤◌, length};
 ghost use Rattle.paper.specs.Program.{digits, spaced, line_end, closest_line, lines};
 ghost use Rattle.paper.specs.Refusals.{given};

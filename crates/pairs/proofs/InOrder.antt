@@ -100,8 +100,8 @@ module _ {w : List ℕ} {d a b n : ℕ} (g : Listable w d a b n) where
       let z : k < nodes_of n = omega (arith, some_leaf s, some_leaf t) in
       let i : cell w FIRST k ≡ leaf_mark → ⊥ = λ h. no-fork (q ∙ leaf_on g.stands k z h) in
       let F = q ∙ fork_on g.stands k z i in
-      let S = part-is s (cell w FIRST k) (k + 1) m.1 (first-of-fork F) in
-      let T = part-is t (cell w SECOND k) (k + 2 * leaves s) m.2 (second-of-fork F) in
+      let S = part_is s (cell w FIRST k) (k + 1) m.1 (first-of-fork F) in
+      let T = part_is t (cell w SECOND k) (k + 2 * leaves s) m.2 (second-of-fork F) in
       upto t (k + 2 * leaves s) e m.2 T (omega arith) l
       ∙ rw (
         upto s (k + 1) (k + 2 * leaves s) m.1 S (omega arith) (omega (arith, some_leaf t)),
@@ -121,8 +121,8 @@ module _ {w : List ℕ} {d a b n : ℕ} (g : Listable w d a b n) where
       second-of-fork : {i j : ℕ} {s t p q : Tree} → fork i s t ≡ fork j p q → t ≡ q
       second-of-fork {t} e = ap (λ (u : Tree). elim u [ leaf k x ↦ t | fork k p q ↦ q ]) e
 
-      part-is : (s : Tree) (c k : ℕ) → Met k s → s ≡ node_on w n c → s ≡ node_on w n k
-      part-is s c k m e =
+      part_is : (s : Tree) (c k : ℕ) → Met k s → s ≡ node_on w n c → s ≡ node_on w n k
+      part_is s c k m e =
           let z : c ≡ k = sym (number-grow (tree_on w n) c) ∙ sym (ap number e) ∙ number_met k s m in
           rw z at e
 

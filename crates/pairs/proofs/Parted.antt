@@ -20,7 +20,7 @@ use Rattle.tree.proofs.Views.{on_holes, on_node}
 use Rattle.tree.proofs.Standing.{first_on, second_on}
 use Rattle.theory.specs.Trees.{leaves}
 use Rattle.theory.proofs.Grown.{number-grow, grow_leaf, grow_fork}
-use Rattle.theory.proofs.Subtrees.{whole, in-first, in-second, some_leaf, Facing, facing_down, facing_first}
+use Rattle.theory.proofs.Subtrees.{whole, in_first, in_second, some_leaf, Facing, facing_down, facing_first}
 use Rattle.theory.proofs.Pairing.{never-split-first, never-split-second}
 use Rattle.theory.proofs.PairRules.{rule_far, rule_first, rule_second}
 use Rattle.pairs.specs.Listing.{far_on, long_on, grown_on}
@@ -118,8 +118,8 @@ module _ {w : List ℕ} {d a b n i j : ℕ} (f : Faces w d a b n i j) where
         let no : far_on w d a b (fork i p q) B ≡ false = rw (← A) (far_is ∙ e) in
         let longer : long_on w d B < long_on w d (fork i p q) = rw (← A, long_is i, long_is j) l in
         record {
-          one = others (first_on s i f.left g).node f.right (facing_down face (in-first whole) whole);
-          two = others (second_on s i f.left g).node f.right (facing_down face (in-second whole) whole);
+          one = others (first_on s i f.left g).node f.right (facing_down face (in_first whole) whole);
+          two = others (second_on s i f.left g).node f.right (facing_down face (in_second whole) whole);
           less_one = omega arith;
           less_two = omega arith;
           pairs = rw (A, rule_first (far_on w d a b) (long_on w d) i p q B no longer, map-append);
@@ -139,8 +139,8 @@ module _ {w : List ℕ} {d a b n i j : ℕ} (f : Faces w d a b n i j) where
         let no : far_on w d a b A (fork j p q) ≡ false = rw (← B) (far_is ∙ e) in
         let longer : long_on w d A ≤ long_on w d (fork j p q) = rw (← B, long_is i, long_is j) l in
         record {
-          one = others f.left (first_on s j f.right g).node (facing_down face whole (in-first whole));
-          two = others f.left (second_on s j f.right g).node (facing_down face whole (in-second whole));
+          one = others f.left (first_on s j f.right g).node (facing_down face whole (in_first whole));
+          two = others f.left (second_on s j f.right g).node (facing_down face whole (in_second whole));
           less_one = omega arith;
           less_two = omega arith;
           pairs = rw (B, rule_second (far_on w d a b) (long_on w d) A j p q no longer, map-append);
@@ -173,11 +173,11 @@ module _ {w : List ℕ} {d a b n i j at : ℕ} (c : Comparing w d a b n i j at) 
     lengths : length (compared_on w d a b n i j) ≡ length (compared_on w d a b n x y) + length (compared_on w d a b n z u)
     lengths = ap length p.pairs ∙ length-append (compared_on w d a b n x y) (compared_on w d a b n z u)
 
-    pub part-one : Comparing w d a b n x y at
-    part-one = record { faces = p.one; room = omega (arith, c.room, lengths) }
+    pub part_one : Comparing w d a b n x y at
+    part_one = record { faces = p.one; room = omega (arith, c.room, lengths) }
 
-    pub part-two : {o o' : List ℕ} {m : ℕ} → Laid (compared_on w d a b n x y) at o o' m → Comparing w d a b n z u m
-    part-two l = record { faces = p.two; room = omega (arith, c.room, lengths, l.next) }
+    pub part_two : {o o' : List ℕ} {m : ℕ} → Laid (compared_on w d a b n x y) at o o' m → Comparing w d a b n z u m
+    part_two l = record { faces = p.two; room = omega (arith, c.room, lengths, l.next) }
 
     pub both-parts : {o o₁ o₂ : List ℕ} {m r : ℕ} → Laid (compared_on w d a b n x y) at o o₁ m → Laid (compared_on w d a b n z u) m o₁ o₂ r
         → Laid (compared_on w d a b n i j) at o o₂ r

@@ -71,6 +71,7 @@ has_is x l = (to l, back l)
     to (y ∷ l) e = ⊎_elim (λ h. Memᴰ.head (eqb-true x y h)) (λ h. Memᴰ.tail (to l h)) ((or_is (eqb x y) (has x l)).0 e)
 
     back : (l : List ℕ) → Memᴰ x l → has x l ≡ true
+    back [] m = elim m [ ]
     back (y ∷ l) (Memᴰ.head e) = (or_is (eqb x y) (has x l)).1 (inl (eq-eqb x y e))
     back (y ∷ l) (Memᴰ.tail m) = (or_is (eqb x y) (has x l)).1 (inr (back l m))
 
@@ -124,6 +125,7 @@ some_is {A} p l = (to l, λ w. back l w.0 w.1 w.2)
         (λ h. let w = to l (⊎_elim (λ g. both g h) (λ g. g) ((or_is (p y) (some_of p l)).0 e)) in (w.0, Memᴰ.tail w.1, w.2))
 
     back : (l : List A) (x : A) → Memᴰ x l → p x ≡ true → some_of p l ≡ true
+    back [] x m h = elim m [ ]
     back (y ∷ l) x (Memᴰ.head e) h = (or_is (p y) (some_of p l)).1 (inl (rw (← e) h))
     back (y ∷ l) x (Memᴰ.tail m) h = (or_is (p y) (some_of p l)).1 (inr (back l x m h))
 

@@ -1,5 +1,7 @@
 // The paper: document 01 as definitions, in specs/, one file for each of its headings; the refusals and the answers of the
 // public calls as enums. Everything that a reader of a contract must believe stands here. There is almost no code.
+#![tactic(auto)]
+
 ghost use Rattle.std.specs.Prelude.{◌≡◌};
 ghost use Rattle.paper.specs.Refusals.{number, value};
 

@@ -1,4 +1,6 @@
 // The library as C sees it: each call of include/antlophis.h. An answer is plain numbers, a part of a record is its place.
+#![tactic(auto)]
+
 ghost use Rattle.paper.specs.Record.{holes_part, nodes_part, pairs_part};
 ghost use Rattle.paper.specs.Refusals.{build, check};
 ghost use Rattle.paper.specs.Questions.{closest, pitch, links};

@@ -96,8 +96,8 @@ module _ {bytes w : List ℕ} {p : Parts} (k : Known bytes w p) where
 
   -- a node with the hole x alone
   module _ (j x : ℕ) (l : j < node_count (view_of bytes)) (e : under_node (view_of bytes) j ≡ x ∷ []) where
-    one-counted : cell w HOLES j ≡ 1
-    one-counted = k.filled.holes j l ∙ rw e refl
+    one_counted : cell w HOLES j ≡ 1
+    one_counted = k.filled.holes j l ∙ rw e refl
 
     lowest-alone : cell w LOWEST j ≡ x
     unfolding lowest
@@ -112,7 +112,7 @@ module _ {bytes w : List ℕ} {p : Parts} (k : Known bytes w p) where
     key-alone : pair_key w (i, j) ≡ key (apart (view_of bytes).holes (x, y)) (min x y) (max x y)
     unfolding apart
     key-alone =
-        key_both w i j (one-counted i x l e) (one-counted j y h f)
+        key_both w i j (one_counted i x l e) (one_counted j y h f)
         ∙ rw (lowest-alone i x l e, lowest-alone j y h f, corner-alone i x l e, corner-alone j y h f) refl
 
     key-forth : x < y → pair_key w (i, j) ≡ key (apart (view_of bytes).holes (x, y)) x y
@@ -148,13 +148,13 @@ module _ {bytes w : List ℕ} {p : Parts} (k : Known bytes w p) where
     one_left =
         let q = pair (view_of bytes) t in
         let r = pair_rule t l in
-        ⊎_elim (λ u. one-counted q.0 i r.left (held q.0 i u.0)) (λ u. one-counted q.0 j r.left (held q.0 j u.0)) s
+        ⊎_elim (λ u. one_counted q.0 i r.left (held q.0 i u.0)) (λ u. one_counted q.0 j r.left (held q.0 j u.0)) s
 
     one_right : cell w HOLES (pair (view_of bytes) t).1 ≡ 1
     one_right =
         let q = pair (view_of bytes) t in
         let r = pair_rule t l in
-        ⊎_elim (λ u. one-counted q.1 j r.right (held q.1 j u.1)) (λ u. one-counted q.1 i r.right (held q.1 i u.1)) s
+        ⊎_elim (λ u. one_counted q.1 j r.right (held q.1 j u.1)) (λ u. one_counted q.1 i r.right (held q.1 i u.1)) s
 
   -- a key is the key of two holes: those of the pair, which has none on both sides
   module _ (t : ℕ) (l : t < pairs_in bytes) where

@@ -68,15 +68,15 @@ module _ {bytes w : List ℕ} {p : Parts} (k : Known bytes w p) where
     ratio-high : leb (view_of bytes).a (2 * (view_of bytes).b) ≡ false
     ratio-high = rw (a_is, b_is) (lt-leb _ _ l)
 
-    far-is : x / 1_048_576 ≡ apart (view_of bytes).holes (nearest (view_of bytes).holes)
-    far-is = omega (arith, s.is, s.first, s.second)
+    far_is : x / 1_048_576 ≡ apart (view_of bytes).holes (nearest (view_of bytes).holes)
+    far_is = omega (arith, s.is, s.first, s.second)
 
     pub is-closest : found (L.Holes (x / 1_024 % 1_024) (x % 1_024) (x / 1_048_576)) ≡ closest bytes (length w)
     unfolding closest
     is-closest =
         let i : x / 1_024 % 1_024 ≡ (nearest (view_of bytes).holes).0 = omega (arith, s.is, s.first, s.second) in
         let j : x % 1_024 ≡ (nearest (view_of bytes).holes).1 = omega (arith, s.is, s.first, s.second) in
-        sym (rw (k.taken, i, j, far-is)
+        sym (rw (k.taken, i, j, far_is)
         (pass _ (ne_eqb _ _ (λ e. n (sym n_is ∙ e))) R.Single _ ∙ pass _ ratio-high (R.Low (256 * (view_of bytes).a + (view_of bytes).b)) _ ∙ passed _))
 
     -- the pitch
@@ -87,8 +87,8 @@ module _ {bytes w : List ℕ} {p : Parts} (k : Known bytes w p) where
     keeps-far q {t} e =
         let w = pitch-nearest (view_of bytes).holes (omega (arith, n, n_is, view_holes bytes, k.rules.some)) q in
         cases t
-        (λ f. w.1 (rw (← far-is) (leb-true (square q) (x / 1_048_576) (sym e ∙ f))) ∙ sym f)
-        (λ f. not_so (λ h. omega (arith, w.0 h, far-is, leb-false (square q) (x / 1_048_576) (sym e ∙ f))) ∙ sym f)
+        (λ f. w.1 (rw (← far_is) (leb-true (square q) (x / 1_048_576) (sym e ∙ f))) ∙ sym f)
+        (λ f. not_so (λ h. omega (arith, w.0 h, far_is, leb-false (square q) (x / 1_048_576) (sym e ∙ f))) ∙ sym f)
 
     asked-pitch : (q : ℕ) → pitch bytes q (length w) ≡ given (keeps (view_of bytes).holes q)
     unfolding pitch

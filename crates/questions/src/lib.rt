@@ -1,5 +1,7 @@
 // The questions over a taken record: the closest pair, the pitch test and the links.
 // Each inspects the record once and answers from what then stands on the slate; every call ends with the slate wiped.
+#![tactic(auto)]
+
 ghost use Rattle.std.specs.Prelude.{◌≡◌, ◌*◌, ◌<◌, ◌≤◌, leb, length};
 ghost use Rattle.words.specs.Words.{Written};
 ghost use Rattle.paper.specs.Field.{square};

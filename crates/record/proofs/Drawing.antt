@@ -61,22 +61,22 @@ module _ {c : List ℕ} {a b n : ℕ} (f : Buildable c a b n) (w : List ℕ) (gr
   tree_is = grow_back (tree_on w n) (tree_of (holes_at 2 c 0 n)) met all_leaves nodes few_nodes
 
   module _ (boxes : (s : Tree) → Sub s (tree_of (holes_at 2 c 0 n)) → box_on w 2 (number s) ≡ box_at (holes_at 2 c 0 n) (under s)) (shapes : Shapes w 2 a b n) where
-    far-is : (A B : Tree) → Sub A (tree_of (holes_at 2 c 0 n)) → Sub B (tree_of (holes_at 2 c 0 n)) → far_on w 2 a b A B ≡ far (holes_at 2 c 0 n) a b A B
+    far_is : (A B : Tree) → Sub A (tree_of (holes_at 2 c 0 n)) → Sub B (tree_of (holes_at 2 c 0 n)) → far_on w 2 a b A B ≡ far (holes_at 2 c 0 n) a b A B
     unfolding far_on far
-    far-is A B p q = rw (boxes A p, boxes B q)
+    far_is A B p q = rw (boxes A p, boxes B q)
 
     side_is : (A : Tree) → Sub A (tree_of (holes_at 2 c 0 n)) → long_on w 2 A ≡ side (holes_at 2 c 0 n) A
     unfolding long_on side
-    side-is A p = rw (boxes A p)
+    side_is A p = rw (boxes A p)
 
     regular-on : Regular (far_on w 2 a b) (long_on w 2) (tree_of (holes_at 2 c 0 n))
     regular-on =
         let r = regular 2 (holes_at 2 c 0 n) (holes_flat 2 c 0 n) f.distinct some_holes a b in
         record {
           once = r.once;
-          leaves_far = λ i x j y p q ne. far-is (leaf i x) (leaf j y) p q ∙ r.leaves_far i x j y p q ne;
-          flat = λ i x q. side-is (leaf i x) q ∙ r.flat i x q;
-          wide = λ i s t q. rw (side-is (fork i s t) q) (r.wide i s t q);
+          leaves_far = λ i x j y p q ne. far_is (leaf i x) (leaf j y) p q ∙ r.leaves_far i x j y p q ne;
+          flat = λ i x q. side_is (leaf i x) q ∙ r.flat i x q;
+          wide = λ i s t q. rw (side_is (fork i s t) q) (r.wide i s t q);
         }
 
     pub drawn : Drawn c a b n w
@@ -92,7 +92,7 @@ module _ {c : List ℕ} {a b n : ℕ} (f : Buildable c a b n) (w : List ℕ) (gr
             regular = rw tree_is regular-on;
           };
           nodes = nodes;
-          pairs = rw tree_is (ap (map numbers) (pairs_agree (far_on w 2 a b) (far (holes_at 2 c 0 n) a b) (long_on w 2) (side (holes_at 2 c 0 n)) regular-on far-is side-is));
+          pairs = rw tree_is (ap (map numbers) (pairs_agree (far_on w 2 a b) (far (holes_at 2 c 0 n) a b) (long_on w 2) (side (holes_at 2 c 0 n)) regular-on far_is side_is));
         }
 
 -- summed up and with its shapes written: the tree is still there, and each node's box is that of its holes
@@ -121,7 +121,7 @@ module _ {c : List ℕ} {a b n : ℕ} (f : Buildable c a b n) {old mid : List �
       ∙ ap (box_at (holes_at 2 c 0 n)) (under-is t q))
       p.shapes
     where
-      under-is : (t : Tree) → Sub t (tree_of (holes_at 2 c 0 n)) → Rattle.paper.specs.Rules.under-node (tree_on mid n) (number t) ≡ under t
+      under-is : (t : Tree) → Sub t (tree_of (holes_at 2 c 0 n)) → Rattle.paper.specs.Rules.under_node (tree_on mid n) (number t) ≡ under t
       under-is t q =
           under_sub (tree_on mid n) (tree_of (holes_at 2 c 0 n)) (met f mid (omega (arith, g.len)) g.nodes) (all_leaves f mid (omega (arith, g.len)) g.nodes)
           g.nodes (few_nodes f mid (omega (arith, g.len)) g.nodes) t q

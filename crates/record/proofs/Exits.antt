@@ -41,12 +41,12 @@ module _ (r : List ℕ) where
   -- the ratio
   module _ {a b : ℕ} {t : Bool} (l : 4 ≤ length r) (a_is : a ≡ get_or r 0 0) (b_is : b ≡ get_or r 1 0) (t-is : t ≡ ratio_ok a b) where
     pub wrong-ratio : not t ≡ true → cut_answer r ≡ refused 4 0
-    wrong-ratio e = passed_head l _ _ (here refl (λ ok. both ((ratio_is a b).1 (rw (a-is, b-is) ok)) (sym t-is ∙ not-true t e), refl))
+    wrong-ratio e = passed_head l _ _ (here refl (λ ok. both ((ratio_is a b).1 (rw (a_is, b_is) ok)) (sym t-is ∙ not-true t e), refl))
 
     -- the hole count
     module _ {n : ℕ} (e : not t ≡ false) (read : Read 2 r 2 n) where
       right-ratio : Ratio (get_or r 0 0) (get_or r 1 0)
-      right-ratio = rw (← a-is, ← b-is) ((ratio_is a b).0 (sym t-is ∙ not-false t e))
+      right-ratio = rw (← a_is, ← b_is) ((ratio_is a b).0 (sym t-is ∙ not-false t e))
 
       pub no_holes : n ≡ 0 → cut_answer r ≡ refused 2 0
       no_holes z = passed_ratio l right-ratio _ _ (here refl (omega arith, refl))
@@ -55,7 +55,7 @@ module _ (r : List ℕ) where
       many-holes m = passed_ratio l right-ratio _ _ (later (λ y d. omega (arith, d.0)) (here refl (omega arith, read.is)))
 
       pub begins : (n ≡ 0 → ⊥) → n ≤ 1_024 → Begun r a b n
-      begins z m = record { head = l; a_is = a-is; b_is = b-is; ratio = right-ratio; n_is = read.is; some = omega arith; few = m }
+      begins z m = record { head = l; a_is = a_is; b_is = b_is; ratio = right-ratio; n_is = read.is; some = omega arith; few = m }
 
   module _ {a b n : ℕ} (begun : Begun r a b n) where
     passed-holes : Passed 4

@@ -67,8 +67,8 @@ module _ (r : List ℕ) where
     pub holes-length : length (holes_slice r) ≡ 4 * holes_in r
     holes-length = slice_length _ holes_start r (omega arith)
 
-    pub nodes-length : length (nodes_slice r) ≡ 4 * nodes_of (holes_in r)
-    nodes-length = slice_length _ (nodes_start (holes_in r)) r (omega arith)
+    pub nodes_length : length (nodes_slice r) ≡ 4 * nodes_of (holes_in r)
+    nodes_length = slice_length _ (nodes_start (holes_in r)) r (omega arith)
 
     pub pairs-length : length (pairs_slice r) ≡ 4 * pairs_in r
     pairs-length = slice_length _ (pairs_start (holes_in r)) r (omega arith)

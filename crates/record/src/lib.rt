@@ -1,5 +1,7 @@
 // Records: cutting one into its parts, inspecting it, checking it, and handing back its sections.
 // Only `cut` knows how the bytes are laid out and that holes have two coordinates; what comes after it works on the parts.
+#![tactic(auto)]
+
 ghost use Rattle.std.specs.Prelude.{◌≡◌, ◌+◌, ◌*◌, ◌-◌, ◌/◌, ◌<◌, ◌≤◌, length};
 ghost use Rattle.slate.specs.Columns.{FIRST, SECOND};
 ghost use Rattle.slate.specs.Slate.{cell, Grid};

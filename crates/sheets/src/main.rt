@@ -2,6 +2,8 @@
 // what was got. The arguments name the files of the cases. A file has ten numbers of eight bytes: the call, as `called` numbers them, its
 // two numbers, the lengths of work area and output, the answer in four numbers, and the length of the input; then the input, and the
 // output that is expected.
+#![tactic(auto)]
+
 ghost use Rattle.std.specs.Prelude.{◌*◌, ◌<◌, ◌≤◌, length};
 
 use libc::STDOUT_FILENO;

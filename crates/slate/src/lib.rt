@@ -1,5 +1,7 @@
 // The slate: the lent work area as 16 columns of 2,048 two-byte cells, one column for each thing known of a node or a hole.
 // All state the size of a field stands here and nowhere else, so that wiping the area leaves nothing of it.
+#![tactic(auto)]
+
 ghost use Rattle.std.specs.Prelude.{◌≡◌, ◌+◌, ◌*◌, ◌<◌, ◌≤◌, length, replicate};
 ghost use Rattle.slate.specs.Slate.{Within, WordsIn, Columned, WideWithin, LargeWithin, Held, Set, WordsCleared, Cleared, LoadedTwo, SavedTwo, WideHeld, WideSet, LargeHeld, LargeSet};
 

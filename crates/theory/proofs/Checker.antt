@@ -96,9 +96,9 @@ module _ (r : List ℕ) (w : ℕ) where
       also passed (due.none n) (λ x d. omega (arith, d.0))
       also passed (due.many n) (λ x d. omega (arith, d.0))
       also passed (due.short l (nodes_start n)) (λ x d. omega (arith, d.0))
-      also passed (due.count-nodes n (nodes_in r)) (λ x d. d.0 f.nodes_right)
+      also passed (due.count_nodes n (nodes_in r)) (λ x d. d.0 f.nodes_right)
       also passed (due.short l (pairs_start n)) (λ x d. omega (arith, d.0))
-      also passed (due.count-pairs n m) (λ x d. omega (arith, d.0))
+      also passed (due.count_pairs n m) (λ x d. omega (arith, d.0))
       also passed (due.short l (whole n m)) (λ x d. omega (arith, d.0))
       also passed (due.over l (whole n m)) (λ x d. omega (arith, d.0))
       also all

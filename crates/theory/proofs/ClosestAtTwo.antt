@@ -64,7 +64,7 @@ unfolding P2_view apart distance²
 P2_least =
     rw P2_built
     (record {
-      one-hole = record { order = omega arith; which = 2; listed = omega arith; sides = inl ((refl, refl), (refl, refl)) };
+      one_hole = record { order = omega arith; which = 2; listed = omega arith; sides = inl ((refl, refl), (refl, refl)) };
       least = λ i j o. ⊎_elim (λ u. rw (u.0, u.1) (omega arith)) (λ u. rw (u.0, u.1) (omega arith)) (one_holes i j o);
       first = λ i j o e. (omega arith, λ f l. ⊎_elim (λ u. omega arith) (λ u. omega arith) (one_holes i j o));
     })

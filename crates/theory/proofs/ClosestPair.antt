@@ -62,7 +62,7 @@ module _ (v : View) where
 
   -- of those, the least distance, then the least i, then the least j
   pub record LeastOneHole (q : ℕ × ℕ) : Type 0 where
-    pub one-hole : OneHole q.0 q.1
+    pub one_hole : OneHole q.0 q.1
     pub least : (i j : ℕ) → OneHole i j → apart v.holes q ≤ apart v.holes (i, j)
     pub first : (i j : ℕ) → OneHole i j → apart v.holes (i, j) ≡ apart v.holes q → (i < q.0 → ⊥) × (i ≡ q.0 → j < q.1 → ⊥)
 
@@ -156,7 +156,7 @@ module _
         from =
             let w = nearest_is v.holes enough in
             record {
-              one-hole = closest-listed;
+              one_hole = closest-listed;
               least = λ i j o. w.least i j o.order (one-hole-below i j o);
               first = λ i j o e. w.first i j o.order (one-hole-below i j o) e;
             }
@@ -165,11 +165,11 @@ module _
         to u =
             let n = nearest v.holes in
             let w = nearest_is v.holes enough in
-            let l = one-hole-below q.0 q.1 u.one-hole in
-            let h = w.least q.0 q.1 u.one-hole.order l in
+            let l = one-hole-below q.0 q.1 u.one_hole in
+            let h = w.least q.0 q.1 u.one_hole.order l in
             let k = u.least n.0 n.1 closest-listed in
             let e : apart v.holes q ≡ apart v.holes n = omega arith in
-            let f = w.first q.0 q.1 u.one-hole.order l e in
+            let f = w.first q.0 q.1 u.one_hole.order l e in
             let g = u.first n.0 n.1 closest-listed (sym e) in
             let x : q.0 ≡ n.0 = omega (arith, f.0, g.0) in
             let y : q.1 ≡ n.1 = omega (arith, f.1 x, g.1 (sym x)) in

@@ -69,27 +69,27 @@ module _ (far : Tree → Tree → Bool) (side : Tree → ℕ) where
   -- one induction for all that is said of `listed`: a listed pair, a split of the first node, a split of the second
   module _ (P : Tree → Tree → List (Tree × Tree) → Type 0)
       (alone : (A B : Tree) → P A B ((A, B) ∷ []))
-      (split-first : (i : ℕ) (a b B : Tree) (l r : List (Tree × Tree)) → P a B l → P b B r → P (fork i a b) B (l ++ r))
-      (split-second : (A : Tree) (j : ℕ) (c d : Tree) (l r : List (Tree × Tree)) → P A c l → P A d r → P A (fork j c d) (l ++ r)) where
+      (split_first : (i : ℕ) (a b B : Tree) (l r : List (Tree × Tree)) → P a B l → P b B r → P (fork i a b) B (l ++ r))
+      (split_second : (A : Tree) (j : ℕ) (c d : Tree) (l r : List (Tree × Tree)) → P A c l → P A d r → P A (fork j c d) (l ++ r)) where
     listed-ind : (A B : Tree) → P A B (listed A B)
     unfolding listed
     listed-ind (leaf i x) (leaf j y) = alone (leaf i x) (leaf j y)
     listed-ind (leaf i x) (fork j c d) =
         let A = leaf i x in
         let B = fork j c d in
-        by_case (P A B) (far A B) (λ e. alone A B) (λ e. split-second A j c d _ _ (listed-ind (leaf i x) c) (listed-ind (leaf i x) d))
+        by_case (P A B) (far A B) (λ e. alone A B) (λ e. split_second A j c d _ _ (listed-ind (leaf i x) c) (listed-ind (leaf i x) d))
     listed-ind (fork i a b) (leaf j y) =
         let A = fork i a b in
         let B = leaf j y in
-        by_case (P A B) (far A B) (λ e. alone A B) (λ e. split-first i a b B _ _ (listed-ind a (leaf j y)) (listed-ind b (leaf j y)))
+        by_case (P A B) (far A B) (λ e. alone A B) (λ e. split_first i a b B _ _ (listed-ind a (leaf j y)) (listed-ind b (leaf j y)))
     listed-ind (fork i a b) (fork j c d) =
         let A = fork i a b in
         let B = fork j c d in
         by_case (P A B) (far A B) (λ e. alone A B)
         (λ e.
         by_case (P A B) (ltb (side B) (side A))
-        (λ e. split-first i a b B _ _ (listed-ind a (fork j c d)) (listed-ind b (fork j c d)))
-        (λ e. split-second A j c d _ _ (listed-ind (fork i a b) c) (listed-ind (fork i a b) d)))
+        (λ e. split_first i a b B _ _ (listed-ind a (fork j c d)) (listed-ind b (fork j c d)))
+        (λ e. split_second A j c d _ _ (listed-ind (fork i a b) c) (listed-ind (fork i a b) d)))
 
 -- the sum of a measure over a list
 module _ {A : Type 0} (f : A → ℕ) where

@@ -24,7 +24,7 @@ use Rattle.theory.proofs.PairRules.{pairs-far}
 use Rattle.theory.proofs.Pairing.{Regular, pairs_at_most, pairs-cover}
 use Rattle.theory.proofs.Counting.{comparisons_are}
 use Rattle.theory.proofs.PairsFit.{pairs-sub}
-use Rattle.theory.proofs.Fields.{Distinct, leaf_side, leaves-far, leaves-tree, met-tree, once-tree, times-tree, fork-tree-side}
+use Rattle.theory.proofs.Fields.{Distinct, leaf_side, leaves_far, leaves-tree, met-tree, once-tree, times-tree, fork-tree-side}
 use Rattle.theory.proofs.Numbering.{under_sub, number_sub, grow_back, node-rule}
 use Rattle.theory.proofs.Checker.{Meant}
 
@@ -46,7 +46,7 @@ module _ (d : ℕ) (H : Field) (sized : Each (λ h. length h ≡ d) H) (distinct
       let o = once-tree H d sized distinct some in
       record {
         once = o.once;
-        leaves_far = λ i x j y p q ne. leaves-far H d sized distinct a b i x j y (o.within x (leaf_under p)) (o.within y (leaf_under q)) ne;
+        leaves_far = λ i x j y p q ne. leaves_far H d sized distinct a b i x j y (o.within x (leaf_under p)) (o.within y (leaf_under q)) ne;
         flat = λ i x q. leaf_side H i x;
         wide = fork-tree-side H d sized distinct some;
       }
@@ -96,9 +96,9 @@ module _ (d : ℕ) (H : Field) (sized : Each (λ h. length h ≡ d) H) (distinct
     unfolding pairs_of Right
     all_right = each_map₂ (λ r s e. (s, e)) (pairs_of H a b) (pairs-sub (far H a b) (side H) (tree_of H)) (pairs-far (far H a b) (side H) (tree_of H))
 
-    pair-rule : (r : Tree × Tree) → Right r → PairRule (built a b H) (numbers r)
+    pair_rule : (r : Tree × Tree) → Right r → PairRule (built a b H) (numbers r)
     unfolding Right built far
-    pair-rule r w =
+    pair_rule r w =
         record {
           left = number-built r.0 w.0.0;
           right = number-built r.1 w.0.1;
@@ -109,11 +109,11 @@ module _ (d : ℕ) (H : Field) (sized : Each (λ h. length h ≡ d) H) (distinct
     unfolding built number
     built-pairs k l =
         rw (get_or-map numbers (pairs_of H a b) k (leaf 0 0, leaf 0 0))
-        (pair-rule _ (each_at Right (pairs_of H a b) all_right k (leaf 0 0, leaf 0 0) (rw (← length-map (pairs_of H a b) numbers) l)))
+        (pair_rule _ (each_at Right (pairs_of H a b) all_right k (leaf 0 0, leaf 0 0) (rw (← length-map (pairs_of H a b) numbers) l)))
 
-    covers-is : (p q : ℕ) (r : Tree × Tree) → Right r → covers (built a b H) (p, q) (numbers r) ≡ parts p q r
+    covers_is : (p q : ℕ) (r : Tree × Tree) → Right r → covers (built a b H) (p, q) (numbers r) ≡ parts p q r
     unfolding Right covers parts
-    covers-is p q r w = rw (built-under r.0 w.0.0, built-under r.1 w.0.1)
+    covers_is p q r w = rw (built-under r.0 w.0.0, built-under r.1 w.0.1)
 
     built-covered : (p q : ℕ) → p < length H → q < length H → p ≢ q → OnePair (built a b H) p q
     unfolding covered_once built
@@ -121,7 +121,7 @@ module _ (d : ℕ) (H : Field) (sized : Each (λ h. length h ≡ d) H) (distinct
         (covered_is (built a b H) p q).0
         (eq-eqb _ _
         (count_map (covers (built a b H) (p, q)) numbers (pairs_of H a b)
-        ∙ count_same _ (parts p q) (pairs_of H a b) (each_map (covers-is p q) (pairs_of H a b) all_right)
+        ∙ count_same _ (parts p q) (pairs_of H a b) (each_map (covers_is p q) (pairs_of H a b) all_right)
         ∙ field_covered p q l m ne))
 
     pub built-meant : Meant (built a b H)

@@ -108,7 +108,7 @@ module _ (H : Field) (d : ℕ) (sized : Each (λ h. length h ≡ d) H) (distinct
   -- two leaves of different holes are separated, whatever the ratio
   pub leaves_far : (a b i x j y : ℕ) → x < length H → y < length H → x ≢ y → far H a b (leaf i x) (leaf j y) ≡ true
   unfolding far
-  leaves-far a b i x j y l m ne =
+  leaves_far a b i x j y l m ne =
       rw (leaf_box H i x, leaf_box H j y)
       (spots_far a b (hole H x) (hole H y) (each_at _ H sized x [] l ∙ sym (each_at _ H sized y [] m)) (different H distinct x y l m ne))
 

@@ -38,7 +38,7 @@ data Way (v : View) (k : ℕ) : ℕ → Type 0 where
   here : Way v k k
   down : {j c : ℕ} → Names v j c → Way v k c → Way v k j
 
-way_on : {v : View} {i j k : ℕ} → Names v j k → Way v j i → Way v k i
+way_on : {v : View} {j k i : ℕ} → Names v j k → Way v j i → Way v k i
 way_on n here = down n here
 way_on n (down m w) = down m (way_on n w)
 
@@ -80,8 +80,8 @@ module _ (v : View) (rules : (k : ℕ) → k < node_count v → NodeRule v k) wh
         let e = fork_names v rules k b i (times-under v h) in
         rw (unheld v h k (λ l. absurd (i l))) (omega (arith, often_fork v rules k b i h)))
 
-    all-nodes : sum (times-under v h) (node_count v) ≡ times_held v h + sum (λ c. times_named v c * times-under v h c) (node_count v)
-    all-nodes =
+    all_nodes : sum (times-under v h) (node_count v) ≡ times_held v h + sum (λ c. times_named v c * times-under v h c) (node_count v)
+    all_nodes =
         let N = node_count v in
         let part : ℕ → ℕ → ℕ = λ c k. naming v c k * times-under v h c in
         let parts : ℕ → ℕ = λ k. sum (λ c. part c k) N in
@@ -105,7 +105,7 @@ module _ (v : View) (rules : (k : ℕ) → k < node_count v → NodeRule v k) wh
 
   -- a hole is under the root exactly once, another number under no node, and no number under a node more than once
   pub under_once : (h : ℕ) → h < hole_count v → often h (under_node v 0) ≡ 1
-  under_once h b = omega (arith, all-nodes h, root-and-named h (omega arith), each_held v rules h b)
+  under_once h b = omega (arith, all_nodes h, root-and-named h (omega arith), each_held v rules h b)
 
   pub under_none : (k : ℕ) → k < node_count v → (h : ℕ) → hole_count v ≤ h → often h (under_node v k) ≡ 0
   under_none k b h l =
@@ -132,9 +132,9 @@ module _ (v : View) (rules : (k : ℕ) → k < node_count v → NodeRule v k) wh
       (λ x. ⊎_elim (λ y. e (sym x ∙ y)) (λ y. omega (arith, ap (times-under v h) x, ap (times-under v h) y)) n.1)
       (λ x. ⊎_elim (λ y. omega (arith, ap (times-under v h) x, ap (times-under v h) y)) (λ y. e (sym x ∙ y)) n.1) m.1
 
-  way_under : (j k : ℕ) → j < node_count v → Way v k j → (h : ℕ) → Under v h k → Under v h j
-  way_under j k b here h m = m
-  way_under j k b (down {c = c} n w) h m = part_under v rules j c b n h (way_under c k (part_rule v rules j c b n).node w h m)
+  way_under : (k j : ℕ) → j < node_count v → Way v k j → (h : ℕ) → Under v h k → Under v h j
+  way_under k j b here h m = m
+  way_under k j b (down {c = c} n w) h m = part_under v rules j c b n h (way_under k c (part_rule v rules j c b n).node w h m)
 
   root_way : (k : ℕ) → k < node_count v → Way v k 0
   root_way = root_first (λ k. Way v k 0) here (λ i j a b n w. way_on n w)
@@ -147,7 +147,7 @@ module _ (v : View) (rules : (k : ℕ) → k < node_count v → NodeRule v k) wh
       (λ e. inl (subst (Way v k) (eqb-true c j e) w))
       (λ e.
       let d : j ≢ c = λ q. eqb-false c j e (sym q) in
-      inr (inr (λ h x y. parts_apart i j c b n m d h x (way_under c k (part_rule v rules i c b m).node w h y))))
+      inr (inr (λ h x y. parts_apart i j c b n m d h x (way_under k c (part_rule v rules i c b m).node w h y))))
 
   placed : (j k : ℕ) → j < node_count v → k < node_count v → Placed v j k
   placed j k a b =
@@ -159,4 +159,4 @@ module _ (v : View) (rules : (k : ℕ) → k < node_count v → NodeRule v k) wh
   -- the holes under two nodes are nested or disjoint
   pub nested : (j k : ℕ) → j < node_count v → k < node_count v
       → ((h : ℕ) → Under v h j → Under v h k) ⊎ ((h : ℕ) → Under v h k → Under v h j) ⊎ ((h : ℕ) → Under v h j → Under v h k → ⊥)
-  nested j k a b = ⊎_elim (λ w. inr (inl (way_under j k a w))) (⊎_elim (λ w. inl (way_under k j b w)) (λ f. inr (inr f))) (placed j k a b)
+  nested j k a b = ⊎_elim (λ w. inr (inl (way_under k j a w))) (⊎_elim (λ w. inl (way_under j k b w)) (λ f. inr (inr f))) (placed j k a b)

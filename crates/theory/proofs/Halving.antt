@@ -109,12 +109,12 @@ module _ (H : Field) where
     abbrev pub Good : List ℕ → Type 0
     Good s = Sized s × Apart s
 
-    length-box : (i : ℕ) (s : List ℕ) → Sized (i ∷ s) → length (box_at H (i ∷ s)) ≡ d
+    length_box : (i : ℕ) (s : List ℕ) → Sized (i ∷ s) → length (box_at H (i ∷ s)) ≡ d
     unfolding box_at box_of
-    length-box i [] w = rw around_nil (length-map (hole H i) point ∙ w.0)
-    length-box i (j ∷ s) w =
+    length_box i [] w = rw around_nil (length-map (hole H i) point ∙ w.0)
+    length_box i (j ∷ s) w =
         let e : length (spot (hole H i)) ≡ d = length-map (hole H i) point ∙ w.0 in
-        around-length (spot (hole H i)) (box_at H (j ∷ s)) (e ∙ sym (length-box j s w.1)) ∙ e
+        around-length (spot (hole H i)) (box_at H (j ∷ s)) (e ∙ sym (length_box j s w.1)) ∙ e
 
     module _ (x : ℕ) where
       side-one : (i : ℕ) → side_at (i ∷ []) x ≡ point (coordinate x i)
@@ -124,14 +124,16 @@ module _ (H : Field) where
       side-more : (i j : ℕ) (s : List ℕ) → Sized (i ∷ j ∷ s) → side_at (i ∷ j ∷ s) x ≡ hull (point (coordinate x i)) (side_at (j ∷ s) x)
       unfolding box_at box_of
       side-more i j s w =
-          around_at (spot (hole H i)) (box_at H (j ∷ s)) (length-map (hole H i) point ∙ w.0 ∙ sym (length-box j s w.1)) x
+          around_at (spot (hole H i)) (box_at H (j ∷ s)) (length-map (hole H i) point ∙ w.0 ∙ sym (length_box j s w.1)) x
           ∙ ap (λ (e : Side). hull e (side_at (j ∷ s) x)) (get_or-map point (hole H i) x 0)
 
       -- the box of a set holds its holes
       pub held : (s : List ℕ) → Sized s → Each (λ i. Within (side_at s x) (coordinate x i)) s
       held [] w = tt
       held (i ∷ []) w = rw (side-one i) (omega arith, tt)
-      held (i ∷ j ∷ s) w = rw (side-more i j s w) (omega arith, each_map (λ k h. omega arith) (j ∷ s) (held (j ∷ s) w.1))
+      held (i ∷ j ∷ s) w =
+          let e = side-more i j s w in
+          (rw e (omega arith), each_map (λ k h. rw e (omega arith)) (j ∷ s) (held (j ∷ s) w.1))
 
       -- and is the smallest that does
       pub smallest : (e : Side) (i : ℕ) (s : List ℕ) → Sized (i ∷ s) → Each (λ j. Within e (coordinate x j)) (i ∷ s)

@@ -18,7 +18,7 @@ use Rattle.paper.specs.Rules.{hole_count, node_count, node, Leaf, Names, names, 
 use Rattle.paper.proofs.ListLaws.{not_so, and_is, not_is}
 use Rattle.theory.proofs.Statements.{some_below, names_is}
 use Rattle.theory.specs.Trees.{leaves, Met, grow_from, grow}
-use Rattle.theory.proofs.Subtrees.{Sub, whole, in-first, in-second, leaf_under, some_leaf, number_met, sub_number}
+use Rattle.theory.proofs.Subtrees.{Sub, whole, in_first, in_second, leaf_under, some_leaf, number_met, sub_number}
 use Rattle.theory.proofs.Nodes.{length-entries, twice, Once, Part, part_range, one_whole, node_at, part_of}
 
 -- what follows the entries before a first part, and before a second part
@@ -72,8 +72,8 @@ module _ (v : View) where
 
   placed_sub : {s t : Tree} → Placed t → Sub s t → Placed s
   placed_sub w whole = w
-  placed_sub w (in-first {a = a} {b = b} {k = k} u) = placed_sub (placed_first k a b w) u
-  placed_sub w (in-second {a = a} {b = b} {k = k} u) = placed_sub (placed_second k a b w) u
+  placed_sub w (in_first {a = a} {b = b} {k = k} u) = placed_sub (placed_first k a b w) u
+  placed_sub w (in_second {a = a} {b = b} {k = k} u) = placed_sub (placed_second k a b w) u
 
   -- a reader finds there a leaf's hole or a node's two parts
   node_entry : (s : Tree) → Placed s → node v (number s) ≡ entry s

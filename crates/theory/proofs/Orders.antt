@@ -329,20 +329,20 @@ module _ (r : List ℕ) (w : ℕ) where
       rw (after_is {A = ℕ × ℕ} (line.framing r w ++ line.content (view_of r)) ms (holes_in r, pairs_in r) (given t))
       (refused_is t (agree_append (checker_agrees r w) a) n x)
 
-  pub closest-refuses : (n x : ℕ) → closest r w ≡ refused n x ↔ First (due.closest-order r w) n x
+  pub closest-refuses : (n x : ℕ) → closest r w ≡ refused n x ↔ First (due.closest_order r w) n x
   unfolding closest
   closest-refuses =
       let v = view_of r in
       let q = nearest v.holes in
       asked_after (q.0, q.1, apart v.holes q) (by_test R.Single (equal (hole_count v) 1) then low_agrees 2 v.a v.b then end)
 
-  pub links-refuses : (o n x : ℕ) → links r w o ≡ refused n x ↔ First (due.links-order r w o) n x
+  pub links-refuses : (o n x : ℕ) → links r w o ≡ refused n x ↔ First (due.links_order r w o) n x
   unfolding links
   links-refuses o =
       let v = view_of r in
       asked_after (joined (λ p. two_numbers (link v p)) v.pairs) (low_agrees 4 v.a v.b then room_agrees o (4 * pair_count v) then end)
 
-  pub pitch-refuses : (p n x : ℕ) → pitch r p w ≡ refused n x ↔ First (due.pitch-order r w) n x
+  pub pitch-refuses : (p n x : ℕ) → pitch r p w ≡ refused n x ↔ First (due.pitch_order r w) n x
   unfolding pitch
   pitch-refuses p n x =
       let v = view_of r in

@@ -16,7 +16,7 @@ use Rattle.paper.specs.Pairs.{compared, pairs}
 use Rattle.paper.proofs.ListLaws.{by_case, both}
 use Rattle.theory.specs.Trees.{leaves, times}
 use Rattle.theory.proofs.EachLaws.{keep_split}
-use Rattle.theory.proofs.Subtrees.{Sub, whole, in-first, in-second, sub_first, sub_second, leaf_times, Facing, facing_parts, facing_first, facing_second, facing_down, facing_times}
+use Rattle.theory.proofs.Subtrees.{Sub, whole, in_first, in_second, sub_first, sub_second, leaf_times, Facing, facing_parts, facing_first, facing_second, facing_down, facing_times}
 use Rattle.theory.proofs.Covering.{listed, listed_far, listed_first, listed_second, listing, parts, listing_covers, listing_bound, at_most}
 use Rattle.theory.proofs.PairRules.{apart, listed_by, pairs_leaf, pairs_fork, WhenFar, WhenFirst, WhenSecond, compared-ind}
 
@@ -92,8 +92,8 @@ module _ (far : Tree → Tree → Bool) (side : Tree → ℕ) where
       facing-ind =
           compared-ind far side (λ A B l. Facing t A B → P A B l)
           (λ A B e f. separated A B e)
-          (λ i a b B l r e h v w f. first i a b B l r e h (v (facing_down f (in-first whole) whole)) (w (facing_down f (in-second whole) whole)))
-          (λ A j c d l r e h v w f. second A j c d l r e h (v (facing_down f whole (in-first whole))) (w (facing_down f whole (in-second whole))))
+          (λ i a b B l r e h v w f. first i a b B l r e h (v (facing_down f (in_first whole) whole)) (w (facing_down f (in_second whole) whole)))
+          (λ A j c d l r e h v w f. second A j c d l r e h (v (facing_down f whole (in_first whole))) (w (facing_down f whole (in_second whole))))
           (λ i x B e h f. absurd (never-split-first i x B (facing_first f) h))
           (λ A j y e h f. absurd (never-split-second A j y f e h))
 

@@ -11,8 +11,8 @@ use Rattle.theory.proofs.EachLaws.{keep_split}
 use Rattle.theory.proofs.Subtrees.{
   Sub,
   whole,
-  in-first,
-  in-second,
+  in_first,
+  in_second,
   sub_first,
   sub_second,
   Facing,
@@ -40,8 +40,8 @@ module _ (far far' : Tree → Tree → Bool) (side side' : Tree → ℕ) {t : Tr
       rw (
         keep_split kept (fork i a b, B) l r e,
         rule_first far' side' i a b B (told f e) (omega (arith, s, u, h)),
-        v (facing_down f (in-first whole) whole),
-        w (facing_down f (in-second whole) whole),
+        v (facing_down f (in_first whole) whole),
+        w (facing_down f (in_second whole) whole),
       ))
       (λ A j c d l r e h v w f.
       let s = same-side A (facing_first f) in
@@ -49,8 +49,8 @@ module _ (far far' : Tree → Tree → Bool) (side side' : Tree → ℕ) {t : Tr
       rw (
         keep_split kept (A, fork j c d) l r e,
         rule_second far' side' A j c d (told f e) (omega (arith, s, u, h)),
-        v (facing_down f whole (in-first whole)),
-        w (facing_down f whole (in-second whole)),
+        v (facing_down f whole (in_first whole)),
+        w (facing_down f whole (in_second whole)),
       ))
 
   node_agree : (s : Tree) → Sub s t → pairs far side s ≡ pairs far' side' s

@@ -11,8 +11,8 @@ use Rattle.theory.proofs.EachLaws.{each_append, each_map, each_keep}
 use Rattle.theory.proofs.Subtrees.{
   Sub,
   whole,
-  in-first,
-  in-second,
+  in_first,
+  in_second,
   sub_first,
   sub_second,
   sub_below,
@@ -33,11 +33,11 @@ module _ (far : Tree → Tree → Bool) (side : Tree → ℕ) where
       (λ A B e. ((whole, whole), tt))
       (λ i a b B l r e h v w. (
         (whole, whole),
-        each_append (In (fork i a b) B) l r (each_map (λ s u. (in-first u.0, u.1)) l v) (each_map (λ s u. (in-second u.0, u.1)) r w),
+        each_append (In (fork i a b) B) l r (each_map (λ s u. (in_first u.0, u.1)) l v) (each_map (λ s u. (in_second u.0, u.1)) r w),
       ))
       (λ A j c d l r e h v w. (
         (whole, whole),
-        each_append (In A (fork j c d)) l r (each_map (λ s u. (u.0, in-first u.1)) l v) (each_map (λ s u. (u.0, in-second u.1)) r w),
+        each_append (In A (fork j c d)) l r (each_map (λ s u. (u.0, in_first u.1)) l v) (each_map (λ s u. (u.0, in_second u.1)) r w),
       ))
       (λ i x B e h. ((whole, whole), tt))
       (λ A j y e h. ((whole, whole), tt))

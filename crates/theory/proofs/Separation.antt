@@ -223,11 +223,11 @@ pub data Down (B : Tree) : Tree → Type 0 where
   in_first : {k : ℕ} {f g : Tree} → Down B f → Down B (fork k f g)
   in_second : {k : ℕ} {f g : Tree} → Down B g → Down B (fork k f g)
 
-holes_down : {A B : Tree} → Down B A → (i : ℕ) → Memᴰ i (under B) → Memᴰ i (under A)
+holes_down : {B A : Tree} → Down B A → (i : ℕ) → Memᴰ i (under B) → Memᴰ i (under A)
 unfolding under
 holes_down itself i m = m
-holes_down (in-first {g = g} r) i m = Memᴰ.append_left (under g) (holes_down r i m)
-holes_down (in-second {f = f} r) i m = Memᴰ.append_right (under f) (holes_down r i m)
+holes_down (in_first {g = g} r) i m = Memᴰ.append_left (under g) (holes_down r i m)
+holes_down (in_second {f = f} r) i m = Memᴰ.append_right (under f) (holes_down r i m)
 
 some_hole : (A : Tree) → (i : ℕ) × Memᴰ i (under A)
 unfolding under

@@ -17,28 +17,28 @@ pub data Sub : Tree → Tree → Type 0 where
 
 pub sub_trans : {r s t : Tree} → Sub r s → Sub s t → Sub r t
 sub_trans p whole = p
-sub_trans p (in-first q) = in-first (sub_trans p q)
-sub_trans p (in-second q) = in-second (sub_trans p q)
+sub_trans p (in_first q) = in_first (sub_trans p q)
+sub_trans p (in_second q) = in_second (sub_trans p q)
 
 -- the parts of a node of t are nodes of t
 pub sub_first : {k : ℕ} {a b t : Tree} → Sub (fork k a b) t → Sub a t
-sub_first q = sub_trans (in-first whole) q
+sub_first q = sub_trans (in_first whole) q
 
 pub sub_second : {k : ℕ} {a b t : Tree} → Sub (fork k a b) t → Sub b t
-sub_second q = sub_trans (in-second whole) q
+sub_second q = sub_trans (in_second whole) q
 
 -- a node has each hole at most as often as the tree, and at most as many leaves
 pub sub_times : (x : ℕ) {s t : Tree} → Sub s t → times x s ≤ times x t
 unfolding times
 sub_times x whole = le_refl _
-sub_times x (in-first q) = omega (arith, sub_times x q)
-sub_times x (in-second q) = omega (arith, sub_times x q)
+sub_times x (in_first q) = omega (arith, sub_times x q)
+sub_times x (in_second q) = omega (arith, sub_times x q)
 
 pub sub_leaves : {s t : Tree} → Sub s t → leaves s ≤ leaves t
 unfolding leaves
 sub_leaves whole = le_refl _
-sub_leaves (in-first q) = omega (arith, sub_leaves q)
-sub_leaves (in-second q) = omega (arith, sub_leaves q)
+sub_leaves (in_first q) = omega (arith, sub_leaves q)
+sub_leaves (in_second q) = omega (arith, sub_leaves q)
 
 -- the hole of a leaf is under it once
 pub leaf_times : (i x y : ℕ) → x ≡ y → times x (leaf i y) ≡ 1
@@ -62,14 +62,14 @@ number_met k (fork j a b) m = m.0
 
 pub sub_met : {s t : Tree} (k : ℕ) → Sub s t → Met k t → Met (number s) s
 sub_met k (whole {t = t}) m = rw (number_met k t m) m
-sub_met k (in-first q) m = sub_met (k + 1) q m.1
-sub_met k (in-second {a = a} q) m = sub_met (k + 2 * leaves a) q m.2
+sub_met k (in_first q) m = sub_met (k + 1) q m.1
+sub_met k (in_second {a = a} q) m = sub_met (k + 2 * leaves a) q m.2
 
 pub sub_number : {s t : Tree} (k : ℕ) → Sub s t → Met k t → (k ≤ number s) × (number s + 1 < k + 2 * leaves t)
 unfolding leaves
 sub_number k (whole {t = t}) m = omega (arith, number_met k t m, some_leaf t)
-sub_number k (in-first {b = b} q) m = omega (arith, sub_number (k + 1) q m.1, some_leaf b)
-sub_number k (in-second {a = a} q) m = omega (arith, sub_number (k + 2 * leaves a) q m.2)
+sub_number k (in_first {b = b} q) m = omega (arith, sub_number (k + 1) q m.1, some_leaf b)
+sub_number k (in_second {a = a} q) m = omega (arith, sub_number (k + 2 * leaves a) q m.2)
 
 pub sub_below : {s t : Tree} → Sub s t → Met 0 t → number s < 2 * leaves t - 1
 sub_below q m = omega (arith, sub_number 0 q m)
@@ -109,10 +109,10 @@ facing_parts {k} {a} {b} q = record { place = k; one = a; two = b; node = q; fir
 module _ {t A B : Tree} (w : Facing t A B) where
   -- both are nodes of t, and so are the nodes of one against the other
   pub facing_first : Sub A t
-  facing_first = sub_trans (in-first w.first) w.node
+  facing_first = sub_trans (in_first w.first) w.node
 
   pub facing_second : Sub B t
-  facing_second = sub_trans (in-second w.second) w.node
+  facing_second = sub_trans (in_second w.second) w.node
 
   pub facing_down : {C D : Tree} → Sub C A → Sub D B → Facing t C D
   facing_down p q = record {

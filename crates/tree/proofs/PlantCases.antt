@@ -121,8 +121,8 @@ module _ {hs old : List ℕ} {d n lo m k : ℕ} (p : Plantable old hs d n lo m k
 
     module _ {end : List ℕ} (u : Planted H (lo + r) (m - r) (k + 2 * r) new end) where
       -- planting the second leaves node k and the first part's rows
-      node-k : (c : ℕ) → c ≤ SECOND → cell end c k ≡ cell mid c k
-      node-k c l =
+      node_k : (c : ℕ) → c ≤ SECOND → cell end c k ≡ cell mid c k
+      node_k c l =
           node_kept u (omega arith) c k l (omega arith) (omega arith) ∙ node_kept q (omega arith) c k l (omega arith) (omega arith)
 
       first_rows : rows end (k + 1) (nodes_of r) ≡ entries (tree_from (first H) (k + 1) part_one)
@@ -139,8 +139,8 @@ module _ {hs old : List ℕ} {d n lo m k : ℕ} (p : Plantable old hs d n lo m k
       all-rows =
           let e : nodes_of m ≡ suc (nodes_of r + nodes_of (m - r)) = omega arith in
           let law = cut-law (first H) (Good H d) (halved H d) k set p.good (rw length_run (omega arith)) in
-          let one = node-k FIRST (omega arith) ∙ f.one in
-          let two = node-k SECOND (omega arith) ∙ f.two in
+          let one = node_k FIRST (omega arith) ∙ f.one in
+          let two = node_k SECOND (omega arith) ∙ f.two in
           rw (e, rows_fork end k (nodes_of r) (nodes_of (m - r)), one, two, first_rows, second-rows)
           (rw (law, ← f.size, number_cut (first H) (k + 1) part_one, number_cut (first H) (k + 2 * r) part_two))
 

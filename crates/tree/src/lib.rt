@@ -1,6 +1,8 @@
 // Trees on the slate: loading a record's nodes with the test of their rules, summing up what is under each node, ranking the holes, and
 // planting a field's tree. Only planting recurses, at most 16 cuts per coordinate deep: a tree from outside may be as deep as it has leaves,
 // but its parts have higher numbers than their node.
+#![tactic(auto)]
+
 ghost use Rattle.std.specs.Prelude.{◌≡◌, ◌+◌, ◌*◌, ◌<◌, ◌≤◌, min};
 ghost use Rattle.slate.specs.Columns.{MARKS, LOWEST, ORDER};
 ghost use Rattle.slate.specs.Slate.{cell, Grid, Within, Columned};

@@ -1,5 +1,7 @@
 // Reads a record from standard input and prints document 01's verdict on it. `lines::report` is proved to give what is to be printed for the bytes
 // that were read. Trusted is that the C library's read and write move these bytes: no contract can say so.
+#![tactic(auto)]
+
 use libc::{STDIN_FILENO, STDOUT_FILENO};
 
 fn main() {

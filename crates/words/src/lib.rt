@@ -1,5 +1,7 @@
 // Numbers in byte slices, high byte first; the words of an area by index, low byte first; copying and zeroing.
 // It knows nothing of holes and trees. Each contract says the whole result, and the laws callers cite are in proofs/.
+#![tactic(auto)]
+
 ghost use Rattle.std.specs.Prelude.{◌≡◌, ◌+◌, ◌*◌, ◌≤◌, ◌<◌, length, replicate};
 ghost use Rattle.words.specs.Words.{bytes, Read, Written};
 ghost use Rattle.words.specs.Area.{Loaded, Saved};

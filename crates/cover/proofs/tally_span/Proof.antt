@@ -66,7 +66,7 @@ count-one-requires : tie.Need-count-one-requires
 count-one-requires c κs = search all
 
 count-one-requires-2 : tie.Need-count-one-requires-2
-count-one-requires-2 c κs = ends_still c.before.before.before.count-one.ensures (search rules)
+count-one-requires-2 c κs = ends_still c.before.before.before.count_one.ensures (search rules)
 
 same_length : tie.Need-same-length
 same_length c = search all

@@ -46,7 +46,7 @@ fill-requires c κs =
     let found = c.before.before.before.before.before.before in
     let tested = found.before.before in
     let entry = tested.before.before.before.before.before.before.before.before in (
-      buildable entry.before.args.holes.now (λ k. omega (arith, (entry.shared-slice-known.given k).fits)) _ _ tested.before.ratio-ok.ensures tested.if5.false found.repeated.ensures (search all) (search all) (search all) (search all),
+      buildable entry.before.args.holes.now (λ k. omega (arith, (entry.shared-slice-known.given k).fits)) _ _ tested.before.ratio_ok.ensures tested.if5.false found.repeated.ensures (search all) (search all) (search all) (search all),
       (search all, search all),
     )
 

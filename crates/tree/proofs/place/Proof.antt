@@ -25,12 +25,12 @@ module _ {old hs : List ℕ} {d k x from yes no h : ℕ} (p : Placing old hs d k
     placed_first y v =
         record { len = v.len; test = rw (← l.is) (sym y ∙ e); first = λ z. rw (← l.is) v; second = λ z. both refl z }
 
-    placed-second : r ≡ false → Set old new SCRATCH no h → HolePlaced (goes old hs d k x) from yes no old new false
+    placed_second : r ≡ false → Set old new SCRATCH no h → HolePlaced (goes old hs d k x) from yes no old new false
     unfolding goes
-    placed-second y v =
+    placed_second y v =
         record { len = v.len; test = rw (← l.is) (sym y ∙ e); first = λ z. both z refl; second = λ z. rw (← l.is) v }
 
-ruleset all = (hole_there, placed_first, placed-second, rules)
+ruleset all = (hole_there, placed_first, placed_second, rules)
 
 cell-requires : tie.Need-cell-requires
 cell-requires c κs = search all

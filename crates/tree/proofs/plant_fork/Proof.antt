@@ -1,11 +1,11 @@
 -- The stretch is cut in two parts that each have a hole, so node k's two numbers fit. Assumes nothing.
 use native.Mathlib.Omega.{arith}
 use borrow.Author.Rules.{rules}
-use Rattle.tree.proofs.PlantCases.{twice-fits, second_fits, second-small, forked}
+use Rattle.tree.proofs.PlantCases.{twice-fits, second_fits, second_small, forked}
 use Rattle.tree.proofs.plant_fork.Statement.{statement}
 use Rattle.tree.proofs.plant_fork.Tie as tie
 
-ruleset all = (twice-fits, second_fits, second-small, forked, rules)
+ruleset all = (twice-fits, second_fits, second_small, forked, rules)
 
 cut-in-two-requires : tie.Need-cut-in-two-requires
 cut-in-two-requires c κs = search all
@@ -20,7 +20,7 @@ add-put-node-2 : tie.Need-overflow-add-put-node-2
 add-put-node-2 c = search all
 
 put-node-requires : tie.Need-put-node-requires
-put-node-requires c κs = (omega arith, omega arith, omega arith, search second-small)
+put-node-requires c κs = (omega arith, omega arith, omega arith, search second_small)
 
 same_length : tie.Need-same-length
 same_length c = search all

@@ -6,8 +6,7 @@ use borrow.Author.Rules.{rules}
 use Rattle.words.specs.Area.{Saved}
 use Rattle.slate.specs.Slate.{SavedTwo}
 use Rattle.slate.proofs.Frames.{kept_set, kept_both}
-use Rattle.slate.proofs.save_two.Statement.{statement}
-use Rattle.slate.proofs.save_two.Tie as tie
+use Rattle.slate.proofs.save_two.Goals as goal
 
 halves : {old mid new : List ℕ} {i v : ℕ} → Saved old mid i (v % 65_536) → Saved mid new (i + 1) (v / 65_536) → SavedTwo old new i v
 halves {i = i} p q =
@@ -18,20 +17,11 @@ halves {i = i} p q =
 
 ruleset all = (halves, rules)
 
-save-requires : tie.Need-save-requires
-save-requires c κs = search all
+pub save-requires : goal.save-requires
+save-requires c = search all
 
-add-save : tie.Need-overflow-add-save
-add-save c = search all
+pub save-requires-2 : goal.save-requires-2
+save-requires-2 c = search all
 
-save-requires-2 : tie.Need-save-requires-2
-save-requires-2 c κs = search all
-
-same_length : tie.Need-same-length
-same_length c = search all
-
-returns : tie.Need-returns
+pub returns : goal.returns
 returns c = search all
-
-pub save-two-spec : {M : Type 1} → statement M
-save-two-spec = tie.close (tie.spec save-requires add-save save-requires-2 same_length returns)

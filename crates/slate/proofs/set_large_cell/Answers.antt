@@ -5,8 +5,7 @@ use native.Mathlib.Omega.{arith}
 use borrow.Author.Rules.{rules}
 use Rattle.slate.specs.Slate.{SavedTwo, LargeSet}
 use Rattle.slate.proofs.Frames.{kept_wider, kept_both, kept_two}
-use Rattle.slate.proofs.set_large_cell.Statement.{statement}
-use Rattle.slate.proofs.set_large_cell.Tie as tie
+use Rattle.slate.proofs.set_large_cell.Goals as goal
 
 halves : {old mid new : List ℕ} {c k v : ℕ} → SavedTwo old mid (2_048 * c + 4 * k) (v % 4_294_967_296)
     → SavedTwo mid new (2_048 * c + 4 * k + 2) (v / 4_294_967_296) → LargeSet old new c k v
@@ -18,29 +17,11 @@ halves {c = c} {k = k} p q =
 
 ruleset all = (halves, rules)
 
-mul-i : tie.Need-overflow-mul-i
-mul-i c = search all
+pub save_two-requires : goal.save_two-requires
+save_two-requires c = search all
 
-mul-i-2 : tie.Need-overflow-mul-i-2
-mul-i-2 c = search all
+pub save_two-requires-2 : goal.save_two-requires-2
+save_two-requires-2 c = search all
 
-add-i : tie.Need-overflow-add-i
-add-i c = search all
-
-save-two-requires : tie.Need-save-two-requires
-save-two-requires c κs = search all
-
-add-save-two : tie.Need-overflow-add-save-two
-add-save-two c = search all
-
-save-two-requires-2 : tie.Need-save-two-requires-2
-save-two-requires-2 c κs = search all
-
-same_length : tie.Need-same-length
-same_length c = search all
-
-returns : tie.Need-returns
+pub returns : goal.returns
 returns c = search all
-
-pub set-large-cell-spec : {M : Type 1} → statement M
-set-large-cell-spec = tie.close (tie.spec mul-i mul-i-2 add-i save-two-requires add-save-two save-two-requires-2 same_length returns)
