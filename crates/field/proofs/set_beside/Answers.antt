@@ -10,12 +10,8 @@ use Rattle.paper.specs.Tree.{Side, point, spot, around}
 use Rattle.field.specs.Boxes.{HoleIn, side_on, box_on, Boxed}
 use Rattle.field.specs.Sides.{side_around, Sided}
 use Rattle.field.proofs.Axis.{hole-none, box_none, beside_more, boxed-none, sided_left, boxed_more}
-use Rattle.field.proofs.set_beside.Statement.{statement}
-use Rattle.field.proofs.set_beside.Tie as tie
-
-record Beside (s : List ℕ) (k o : ℕ) (old new : List ℕ) (x : ℕ) : Type 0 where
-  boxed : Boxed old new x k (around (box_on old x k) (spot (hole_at x s o)))
-  ahead : (y : ℕ) → x ≤ y → side_on new k y ≡ side_on old k y
+use Rattle.field.proofs.set_beside.Invariants.{Beside}
+use Rattle.field.proofs.set_beside.Goals as goal
 
 start : (w s : List ℕ) (k o : ℕ) → Beside s k o w w 0
 unfolding around
@@ -36,36 +32,17 @@ done old new s d x k o p l m = let e : x ≡ d = omega arith in rw e at p.boxed
 
 ruleset all = (start, turn, done, rules)
 
-abbrev invariant_loop : tie.invariant-loop
-invariant_loop work₀ holes d k h x₀ work x = (x ≤ d) × Beside holes k (2 * d * h) work₀ work x
+pub loop-x-init : goal.loop-x-init
+loop-x-init c = search all
 
-abbrev decreases_loop : tie.decreases-loop
-decreases_loop work₀ holes d k h x₀ work x = d - x
+pub coordinate-requires : goal.coordinate-requires
+coordinate-requires c = search all
 
-loop-holds : tie.Need-loop-init invariant_loop decreases_loop
-loop-holds c = search all
+pub set_side_beside-requires : goal.set_side_beside-requires
+set_side_beside-requires c = search all
 
-coordinate-requires : tie.Need-coordinate-requires invariant_loop decreases_loop
-coordinate-requires c κs = search all
+pub loop-x-preserved : goal.loop-x-preserved
+loop-x-preserved c = search all
 
-set-side-beside-requires : tie.Need-set-side-beside-requires invariant_loop decreases_loop
-set-side-beside-requires c κs = search all
-
-add-x : tie.Need-overflow-add-x invariant_loop decreases_loop
-add-x c = search all
-
-loop-less : tie.Need-loop-smaller invariant_loop decreases_loop
-loop-less c = search all
-
-loop-again : tie.Need-loop-preserved invariant_loop decreases_loop
-loop-again c = search all
-
-same_length : tie.Need-same-length invariant_loop decreases_loop
-same_length c = search all
-
-returns : tie.Need-returns invariant_loop decreases_loop
+pub returns : goal.returns
 returns c = search all
-
-pub set-beside-spec : {M : Type 1} → statement M
-set-beside-spec =
-    tie.close (tie.spec invariant_loop decreases_loop loop-holds coordinate-requires set-side-beside-requires add-x loop-less loop-again same_length returns)

@@ -10,8 +10,7 @@ use Rattle.paper.specs.Tree.{spot, point}
 use Rattle.field.specs.Boxes.{HoleIn, Boxed}
 use Rattle.field.specs.Sides.{Sided}
 use Rattle.field.proofs.Axis.{hole-none, spot_more, boxed-none, boxed_more}
-use Rattle.field.proofs.set_point.Statement.{statement}
-use Rattle.field.proofs.set_point.Tie as tie
+use Rattle.field.proofs.set_point.Goals as goal
 
 start : (w s : List ℕ) (k o : ℕ) → Boxed w w 0 k (spot (hole_at 0 s o))
 start w s k o = rw (hole-none s o) (boxed-none w k)
@@ -25,35 +24,17 @@ done old new s d x k o p l m = let e : x ≡ d = omega arith in rw e at p
 
 ruleset all = (start, turn, done, rules)
 
-abbrev invariant_loop : tie.invariant-loop
-invariant_loop work₀ holes d k h x₀ work x = (x ≤ d) × Boxed work₀ work x k (spot (hole_at x holes (2 * d * h)))
+pub loop-x-init : goal.loop-x-init
+loop-x-init c = search all
 
-abbrev decreases_loop : tie.decreases-loop
-decreases_loop work₀ holes d k h x₀ work x = d - x
+pub coordinate-c-requires : goal.coordinate-c-requires
+coordinate-c-requires c = search all
 
-loop-holds : tie.Need-loop-init invariant_loop decreases_loop
-loop-holds c = search all
+pub set_side-requires : goal.set_side-requires
+set_side-requires c = search all
 
-coordinate-requires : tie.Need-coordinate-requires invariant_loop decreases_loop
-coordinate-requires c κs = search all
+pub loop-x-preserved : goal.loop-x-preserved
+loop-x-preserved c = search all
 
-set-side-requires : tie.Need-set-side-requires invariant_loop decreases_loop
-set-side-requires c κs = search all
-
-add-x : tie.Need-overflow-add-x invariant_loop decreases_loop
-add-x c = search all
-
-loop-less : tie.Need-loop-smaller invariant_loop decreases_loop
-loop-less c = search all
-
-loop-again : tie.Need-loop-preserved invariant_loop decreases_loop
-loop-again c = search all
-
-same_length : tie.Need-same-length invariant_loop decreases_loop
-same_length c = search all
-
-returns : tie.Need-returns invariant_loop decreases_loop
+pub returns : goal.returns
 returns c = search all
-
-pub set-point-spec : {M : Type 1} → statement M
-set-point-spec = tie.close (tie.spec invariant_loop decreases_loop loop-holds coordinate-requires set-side-requires add-x loop-less loop-again same_length returns)

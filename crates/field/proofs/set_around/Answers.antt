@@ -9,8 +9,7 @@ use Rattle.field.specs.Boxes.{side_on, box_on, NodeOn, Boxed}
 use Rattle.field.specs.Sides.{side_around, Sided}
 use Rattle.field.proofs.Boxes.{boxed-side}
 use Rattle.field.proofs.Axis.{box_none, around_more, boxed-none, boxed_more}
-use Rattle.field.proofs.set_around.Statement.{statement}
-use Rattle.field.proofs.set_around.Tie as tie
+use Rattle.field.proofs.set_around.Goals as goal
 
 start : (w : List ℕ) (k i j : ℕ) → Boxed w w 0 k (around (box_on w 0 i) (box_on w 0 j))
 unfolding around
@@ -29,32 +28,14 @@ done old new d x k i j p l m = let e : x ≡ d = omega arith in rw e at p
 
 ruleset all = (start, turn, done, rules)
 
-abbrev invariant_loop : tie.invariant-loop
-invariant_loop work₀ d k i j x₀ work x = (x ≤ d) × Boxed work₀ work x k (around (box_on work₀ x i) (box_on work₀ x j))
+pub loop-x-init : goal.loop-x-init
+loop-x-init c = search all
 
-abbrev decreases_loop : tie.decreases-loop
-decreases_loop work₀ d k i j x₀ work x = d - x
+pub set_side_around-requires : goal.set_side_around-requires
+set_side_around-requires c = search all
 
-loop-holds : tie.Need-loop-init invariant_loop decreases_loop
-loop-holds c = search all
+pub loop-x-preserved : goal.loop-x-preserved
+loop-x-preserved c = search all
 
-set-side-around-requires : tie.Need-set-side-around-requires invariant_loop decreases_loop
-set-side-around-requires c κs = search all
-
-add-x : tie.Need-overflow-add-x invariant_loop decreases_loop
-add-x c = search all
-
-loop-less : tie.Need-loop-smaller invariant_loop decreases_loop
-loop-less c = search all
-
-loop-again : tie.Need-loop-preserved invariant_loop decreases_loop
-loop-again c = search all
-
-same_length : tie.Need-same-length invariant_loop decreases_loop
-same_length c = search all
-
-returns : tie.Need-returns invariant_loop decreases_loop
+pub returns : goal.returns
 returns c = search all
-
-pub set-around-spec : {M : Type 1} → statement M
-set-around-spec = tie.close (tie.spec invariant_loop decreases_loop loop-holds set-side-around-requires add-x loop-less loop-again same_length returns)

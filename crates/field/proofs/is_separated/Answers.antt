@@ -7,8 +7,7 @@ use borrow.Author.Rules.{rules}
 use Rattle.paper.specs.Field.{square}
 use Rattle.paper.specs.Tree.{Box}
 use Rattle.paper.specs.Separation.{G, D, separated}
-use Rattle.field.proofs.is_separated.Statement.{statement}
-use Rattle.field.proofs.is_separated.Tie as tie
+use Rattle.field.proofs.is_separated.Goals as goal
 
 apart : (a b : ℕ) (A B : Box) (far g h size : ℕ) (t : Bool) → far ≡ D A B → g ≡ G A → h ≡ G B → size ≡ max g h
     → t ≡ (not (eqb far 0) && leb (square (2 * b + a) * size) (square b * far)) → t ≡ separated a b A B
@@ -17,23 +16,20 @@ apart a b A B far g h size t e f i j k = rw (← e, ← f, ← i, ← j) k
 
 ruleset all = (apart, rules)
 
-distance-requires : tie.Need-distance-requires
-distance-requires c κs = search all
+pub distance-far-requires : goal.distance-far-requires
+distance-far-requires c = search all
 
-girth-requires : tie.Need-girth-requires
-girth-requires c κs = search all
+pub girth-requires : goal.girth-requires
+girth-requires c = search all
 
-girth-requires-2 : tie.Need-girth-requires-2
-girth-requires-2 c κs = search all
+pub girth-requires-2 : goal.girth-requires-2
+girth-requires-2 c = search all
 
-greater-requires : tie.Need-greater-requires
-greater-requires c κs = search all
+pub greater-size-requires : goal.greater-size-requires
+greater-size-requires c = search all
 
-wide-enough-requires : tie.Need-wide-enough-requires
-wide-enough-requires c κs = search all
+pub wide_enough-requires : goal.wide_enough-requires
+wide_enough-requires c = search all
 
-returns : tie.Need-returns
+pub returns : goal.returns
 returns c = search all
-
-pub is-separated-spec : {M : Type 1} → statement M
-is-separated-spec = tie.close (tie.spec distance-requires girth-requires girth-requires-2 greater-requires wide-enough-requires returns)

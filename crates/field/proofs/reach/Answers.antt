@@ -10,8 +10,7 @@ use Rattle.paper.specs.Separation.{G}
 use Rattle.field.specs.Reach.{reach}
 use Rattle.field.specs.Sides.{Squared}
 use Rattle.field.proofs.Reaching.{some_square}
-use Rattle.field.proofs.reach.Statement.{statement}
-use Rattle.field.proofs.reach.Tie as tie
+use Rattle.field.proofs.reach.Goals as goal
 
 some_parts : {a b q : ℕ} → Ratio a b → Squared b q → 1 ≤ q
 some_parts r s = omega (arith, some_square r, s.is)
@@ -37,35 +36,20 @@ reach_small {q = q} {z = z} r l e s h = omega (arith, size_small r l e, few_part
 
 ruleset all = (some_parts, sum_fits, reach-found, reach_small, rules)
 
-mul-weighed : tie.Need-overflow-mul-weighed
-mul-weighed c = search all
+pub girth-requires : goal.girth-requires
+girth-requires c = search all
 
-add-weighed : tie.Need-overflow-add-weighed
-add-weighed c = search all
+pub weighed-size-requires : goal.weighed-size-requires
+weighed-size-requires c = search all
 
-girth-requires : tie.Need-girth-requires
-girth-requires c κs = search all
+pub squared-parts-requires : goal.squared-parts-requires
+squared-parts-requires c = search all
 
-weighed-requires : tie.Need-weighed-requires
-weighed-requires c κs = search all
+pub greater-requires : goal.greater-requires
+greater-requires c = search all
 
-squared-requires : tie.Need-squared-requires
-squared-requires c κs = search all
-
-sub-greater : tie.Need-overflow-sub-greater
-sub-greater c = search all
-
-add-greater : tie.Need-overflow-add-greater
-add-greater c = search all
-
-div-greater : tie.Need-nonzero-div-greater
-div-greater c = search all
-
-greater-requires : tie.Need-greater-requires
-greater-requires c κs = search all
-
-returns : tie.Need-returns
+pub returns : goal.returns
 returns c = search all
 
-pub reach-spec : {M : Type 1} → statement M
-reach-spec = tie.close (tie.spec mul-weighed add-weighed girth-requires weighed-requires squared-requires sub-greater add-greater div-greater greater-requires returns)
+pub overflow_add-size : goal.overflow_add-size
+overflow_add-size c = search all

@@ -1,0 +1,42 @@
+-- None of the first i holes is a repeat, until one is, and each of them is on the chain of its bucket. Assumes nothing.
+use Prim.Native.Nat.{◌-◌}
+use mathlib.Core.Path.{◌≡◌}
+use lib.ListN.{length}
+use borrow.Author.Rules.{rules}
+use Rattle.field.specs.Buckets.{Chained}
+use Rattle.field.proofs.Places.{hole_in, NoneBefore, none_before_start, none_before_more, first_repeat, no_repeats}
+use Rattle.field.proofs.Chains.{chained_none, chained_more}
+use Rattle.field.proofs.repeated.Goals as goal
+
+ruleset all = (hole_in, none_before_start, first_repeat, no_repeats, chained_none, rules)
+
+pub clear-requires : goal.clear-requires
+clear-requires c = search all
+
+pub loop-i-init : goal.loop-i-init
+loop-i-init c = search all
+
+pub bucket-b-requires : goal.bucket-b-requires
+bucket-b-requires c = search all
+
+pub is_repeat-requires : goal.is_repeat-requires
+is_repeat-requires c = search all
+
+pub returns-then-is_repeat : goal.returns-then-is_repeat
+returns-then-is_repeat c = search all
+
+pub push-requires : goal.push-requires
+push-requires c = search all
+
+pub loop-i-preserved : goal.loop-i-preserved
+loop-i-preserved c =
+    let told = c in
+    let turn = told in
+    let inv = turn.loop-i.invariant in (
+      search rules,
+      none_before_more _ _ _ inv.1 turn.loop-i-test.true told.is_repeat.ensures told.if-is_repeat.false,
+      chained_more (search rules) turn.loop-i-test.true inv.2 told.bucket-b.ensures c.push.ensures,
+    )
+
+pub returns : goal.returns
+returns c = search all
