@@ -1,7 +1,7 @@
 -- Where a number stands in a list: a member has a place, what stands at a place is a member, and a number that stands in a list at most once has
 -- one place. A list in which each number below n stands once, and no other, has n elements: so all holes are under the root. Assumes nothing.
 use mathlib.Core.Path.{◌≡◌, refl, sym, ap}
-use mathlib.Core.Logic.{⊎_elim}
+use mathlib.Core.Logic.{⊎_elim, inl, inr}
 use mathlib.Core.List.{List, [], ◌∷◌, Memᴰ}
 use Prim.Native.Nat.{ℕ, zero, suc, ◌≤◌, ◌<◌}
 use native.Mathlib.Omega.{arith}
@@ -18,8 +18,11 @@ use Rattle.tree.proofs.UnderLength.{all_often}
 
 pub place_of : {h : ℕ} (l : List ℕ) → Memᴰ h l → (i : ℕ) × (i < length l) × (get_or l i 0 ≡ h)
 place_of [] m = absurd (mathlib.Core.List.Memᴰ.not-nil m)
-place_of (x ∷ l) m =
-    ⊎_elim (λ e. (0, omega arith, sym e)) (λ r. let w = place_of l r in (suc w.0, omega (arith, w.1), w.2)) (mathlib.Core.List.Memᴰ.cases_cons m)
+place_of {h} (x ∷ l) m =
+    elim (mathlib.Core.List.Memᴰ.cases_cons m) [
+      inl e ↦ (0, omega arith, sym e)
+    | inr r ↦ let w : (i : ℕ) × (i < length l) × (get_or l i 0 ≡ h) = place_of l r in (suc w.0, omega (arith, w.1), w.2)
+    ]
 
 pub at_place : (l : List ℕ) (i : ℕ) → i < length l → Memᴰ (get_or l i 0) l
 at_place [] i b = absurd (omega arith)

@@ -10,6 +10,7 @@ use Rattle.words.specs.Area.{word, run}
 use Rattle.words.proofs.AreaLaws.{length_run, run-append, get_d_run}
 use Rattle.slate.specs.Columns.{FIRST, SECOND, ORDER}
 use Rattle.slate.specs.Slate.{cell, Grid}
+use Rattle.paper.specs.Lists.{from}
 use Rattle.paper.proofs.ListLaws.{from-append}
 use Rattle.paper.specs.Field.{holes_at}
 use Rattle.paper.specs.Record.{nodes_of}
@@ -27,7 +28,8 @@ pub rows_fork : (w : List ℕ) (k p q : ℕ)
     → rows w k (suc (p + q)) ≡ (cell w FIRST k, cell w SECOND k) ∷ rows w (k + 1) p ++ rows w (k + 1 + p) q
 rows_fork w k p q =
     let e : suc k ≡ k + 1 = omega arith in
-    rw (e, from-append (k + 1) p q, map-append)
+    let row : ℕ → ℕ × ℕ = λ j. (cell w FIRST j, cell w SECOND j) in
+    rw (e, from-append (k + 1) p q, map-append row (from (k + 1) p) (from (k + 1 + p) q))
 
 pub rows_same : (new old : List ℕ) (k p : ℕ) → ((c i : ℕ) → c ≤ SECOND → k ≤ i → i < k + p → cell new c i ≡ cell old c i)
     → rows new k p ≡ rows old k p

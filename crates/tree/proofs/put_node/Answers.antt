@@ -8,8 +8,7 @@ use Rattle.slate.specs.Columns.{FIRST, SECOND}
 use Rattle.slate.specs.Slate.{Set}
 use Rattle.slate.proofs.Frames.{set-cell}
 use Rattle.tree.specs.Loading.{NodePut}
-use Rattle.tree.proofs.put_node.Statement.{statement}
-use Rattle.tree.proofs.put_node.Tie as tie
+use Rattle.tree.proofs.put_node.Goals as goal
 
 numbers : {old mid new : List ℕ} {k one two : ℕ} → Set old mid FIRST k one → Set mid new SECOND k two → k < 2_048 → NodePut old new k one two
 numbers {k} s t l =
@@ -22,17 +21,11 @@ numbers {k} s t l =
 
 ruleset all = (numbers, rules)
 
-set-cell-requires : tie.Need-set-cell-requires
-set-cell-requires c κs = search all
+pub set_cell-requires : goal.set_cell-requires
+set_cell-requires c = search all
 
-set-cell-requires-2 : tie.Need-set-cell-requires-2
-set-cell-requires-2 c κs = search all
+pub set_cell-requires-2 : goal.set_cell-requires-2
+set_cell-requires-2 c = search all
 
-same_length : tie.Need-same-length
-same_length c = search all
-
-returns : tie.Need-returns
+pub returns : goal.returns
 returns c = search all
-
-pub put-node-spec : {M : Type 1} → statement M
-put-node-spec = tie.close (tie.spec set-cell-requires set-cell-requires-2 same_length returns)

@@ -8,8 +8,7 @@ use Rattle.slate.specs.Columns.{HOLES, LOWEST}
 use Rattle.slate.specs.Slate.{Set}
 use Rattle.slate.proofs.Frames.{set-cell}
 use Rattle.tree.specs.Summing.{SumsPut}
-use Rattle.tree.proofs.put_sums.Statement.{statement}
-use Rattle.tree.proofs.put_sums.Tie as tie
+use Rattle.tree.proofs.put_sums.Goals as goal
 
 put : {old mid new : List ℕ} {k m l : ℕ} → Set old mid HOLES k m → Set mid new LOWEST k l → SumsPut old new k m l
 put {k} p q =
@@ -22,17 +21,11 @@ put {k} p q =
 
 ruleset all = (put, rules)
 
-set-cell-requires : tie.Need-set-cell-requires
-set-cell-requires c κs = search all
+pub set_cell-requires : goal.set_cell-requires
+set_cell-requires c = search all
 
-set-cell-requires-2 : tie.Need-set-cell-requires-2
-set-cell-requires-2 c κs = search all
+pub set_cell-requires-2 : goal.set_cell-requires-2
+set_cell-requires-2 c = search all
 
-same_length : tie.Need-same-length
-same_length c = search all
-
-returns : tie.Need-returns
+pub returns : goal.returns
 returns c = search all
-
-pub put-sums-spec : {M : Type 1} → statement M
-put-sums-spec = tie.close (tie.spec set-cell-requires set-cell-requires-2 same_length returns)

@@ -15,13 +15,8 @@ use Rattle.tree.specs.Ranking.{NodeReady, NodeRanked}
 use Rattle.tree.proofs.Views.{on_holes, same-tree}
 use Rattle.tree.proofs.Stretches.{stretch_is}
 use Rattle.tree.proofs.RankTurns.{RankedTo, shows, shows_still, start, placed, fits, ready, turn-kept, turn, ranked-hole, order_is}
-use Rattle.tree.proofs.rank.Statement.{statement}
-use Rattle.tree.proofs.rank.Tie as tie
-
--- from `old` on only FROM, ORDER and RANK have changed, and the nodes below k are ranked
-record NodesRanked (n k : ℕ) (old w : List ℕ) : Type 0 where
-  pub kept : Kept old w (2_048 * FROM) (2_048 * MARKS)
-  pub ranked : RankedTo (tree_on old n) k w
+use Rattle.tree.proofs.rank.Invariants.{NodesRanked}
+use Rattle.tree.proofs.rank.Goals as goal
 
 node_ready : {n k : ℕ} {old w : List ℕ} → NodesRanked n k old w → k < nodes_of n → NodeReady w k
 node_ready {n} {old} r b = ready r.ranked (omega (arith, on_holes old n))
@@ -59,43 +54,17 @@ module _ {n : ℕ} {old mid : List ℕ} (s : Stands old n) (counted : Counted ol
 
 ruleset all = (begin, node_ready, next, end, rules)
 
-abbrev invariant_loop : tie.invariant-loop
-invariant_loop work₀ n k₀ k-end work k = (k ≤ nodes_of n) × NodesRanked n k work₀ work
+pub set_cell-requires : goal.set_cell-requires
+set_cell-requires c = search all
 
-abbrev decreases_loop : tie.decreases-loop
-decreases_loop work₀ n k₀ k-end work k = nodes_of n - k
+pub loop-k-init : goal.loop-k-init
+loop-k-init c = search all
 
-set-cell-requires : tie.Need-set-cell-requires invariant_loop decreases_loop
-set-cell-requires c κs = search all
+pub rank_node-requires : goal.rank_node-requires
+rank_node-requires c = search all
 
-mul-k-end : tie.Need-overflow-mul-k-end invariant_loop decreases_loop
-mul-k-end c = search all
+pub loop-k-preserved : goal.loop-k-preserved
+loop-k-preserved c = search all
 
-sub-k-end : tie.Need-overflow-sub-k-end invariant_loop decreases_loop
-sub-k-end c = search all
-
-loop-holds : tie.Need-loop-init invariant_loop decreases_loop
-loop-holds c = search all
-
-rank-node-requires : tie.Need-rank-node-requires invariant_loop decreases_loop
-rank-node-requires c κs = search all
-
-add-k : tie.Need-overflow-add-k invariant_loop decreases_loop
-add-k c = search all
-
-loop-less : tie.Need-loop-smaller invariant_loop decreases_loop
-loop-less c = search all
-
-loop-again : tie.Need-loop-preserved invariant_loop decreases_loop
-loop-again c = search all
-
-same_length : tie.Need-same-length invariant_loop decreases_loop
-same_length c = search all
-
-returns : tie.Need-returns invariant_loop decreases_loop
+pub returns : goal.returns
 returns c = search all
-
-pub rank-spec : {M : Type 1} → statement M
-rank-spec =
-    tie.close
-    (tie.spec invariant_loop decreases_loop set-cell-requires mul-k-end sub-k-end loop-holds rank-node-requires add-k loop-less loop-again same_length returns)

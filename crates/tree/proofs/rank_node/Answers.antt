@@ -9,8 +9,7 @@ use Rattle.slate.specs.Columns.{FIRST}
 use Rattle.slate.specs.Slate.{Held}
 use Rattle.paper.specs.Record.{leaf_mark}
 use Rattle.tree.specs.Ranking.{LeafReady, LeafRanked, ForkReady, ForkRanked, NodeReady, NodeRanked}
-use Rattle.tree.proofs.rank_node.Statement.{statement}
-use Rattle.tree.proofs.rank_node.Tie as tie
+use Rattle.tree.proofs.rank_node.Goals as goal
 
 module _ {old : List ℕ} {k first : ℕ} (h : Held old FIRST k first) where
   leaf_ready : NodeReady old k → first ≡ leaf_mark → LeafReady old k
@@ -27,26 +26,17 @@ module _ {old : List ℕ} {k first : ℕ} (h : Held old FIRST k first) where
 
 ruleset all = (leaf_ready, fork_ready, leaf_ranked, fork_ranked, rules)
 
-cell-requires : tie.Need-cell-requires
-cell-requires c κs = search all
+pub cell-requires : goal.cell-requires
+cell-requires c = search all
 
-rank-leaf-requires : tie.Need-rank-leaf-requires
-rank-leaf-requires c κs = search all
+pub rank_leaf-requires : goal.rank_leaf-requires
+rank_leaf-requires c = search all
 
-rank-fork-requires : tie.Need-rank-fork-requires
-rank-fork-requires c κs = search all
+pub rank_fork-requires : goal.rank_fork-requires
+rank_fork-requires c = search all
 
-same_length : tie.Need-same-length
-same_length c = search all
+pub returns-then-cell-eq65535 : goal.returns-then-cell-eq65535
+returns-then-cell-eq65535 c = search all
 
-returns : tie.Need-returns
-returns c = search all
-
-same-length-2 : tie.Need-same-length-2
-same-length-2 c = search all
-
-returns-2 : tie.Need-returns-2
-returns-2 c = search all
-
-pub rank-node-spec : {M : Type 1} → statement M
-rank-node-spec = tie.close (tie.spec cell-requires rank-leaf-requires rank-fork-requires same_length returns same-length-2 returns-2)
+pub returns-else-cell-eq65535 : goal.returns-else-cell-eq65535
+returns-else-cell-eq65535 c = search all

@@ -9,8 +9,7 @@ use Rattle.slate.specs.Slate.{Held, Set}
 use Rattle.slate.proofs.Frames.{set-cell}
 use Rattle.tree.specs.Ranking.{ForkReady, ForkRanked}
 use Rattle.tree.proofs.Sets.{two_sets}
-use Rattle.tree.proofs.rank_fork.Statement.{statement}
-use Rattle.tree.proofs.rank_fork.Tie as tie
+use Rattle.tree.proofs.rank_fork.Goals as goal
 
 module _ {old : List ℕ} {k from one two holes : ℕ} (r : ForkReady old k) (f : Held old FROM k from) (a : Held old FIRST k one)
     (b : Held old SECOND k two) (h : Held old HOLES one holes) where
@@ -24,34 +23,23 @@ module _ {old : List ℕ} {k from one two holes : ℕ} (r : ForkReady old k) (f 
 
 ruleset all = (next_fits, ranked, rules)
 
-cell-requires : tie.Need-cell-requires
-cell-requires c κs = search all
+pub cell-from-requires : goal.cell-from-requires
+cell-from-requires c = search all
 
-cell-requires-2 : tie.Need-cell-requires-2
-cell-requires-2 c κs = search all
+pub cell-one-requires : goal.cell-one-requires
+cell-one-requires c = search all
 
-cell-requires-3 : tie.Need-cell-requires-3
-cell-requires-3 c κs = search all
+pub cell-two-requires : goal.cell-two-requires
+cell-two-requires c = search all
 
-cell-requires-4 : tie.Need-cell-requires-4
-cell-requires-4 c κs = search all
+pub cell-holes-requires : goal.cell-holes-requires
+cell-holes-requires c = search all
 
-set-cell-requires : tie.Need-set-cell-requires
-set-cell-requires c κs = search all
+pub set_cell-requires : goal.set_cell-requires
+set_cell-requires c = search all
 
-add-set-cell : tie.Need-overflow-add-set-cell
-add-set-cell c = search all
+pub set_cell-requires-2 : goal.set_cell-requires-2
+set_cell-requires-2 c = search all
 
-set-cell-requires-2 : tie.Need-set-cell-requires-2
-set-cell-requires-2 c κs = search all
-
-same_length : tie.Need-same-length
-same_length c = search all
-
-returns : tie.Need-returns
+pub returns : goal.returns
 returns c = search all
-
-pub rank-fork-spec : {M : Type 1} → statement M
-rank-fork-spec =
-    tie.close
-    (tie.spec cell-requires cell-requires-2 cell-requires-3 cell-requires-4 set-cell-requires add-set-cell set-cell-requires-2 same_length returns)

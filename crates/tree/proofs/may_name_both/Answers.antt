@@ -7,8 +7,7 @@ use borrow.Author.Rules.{rules}
 use borrow.Author.Tests.{not-true, not-false}
 use Rattle.paper.proofs.ListLaws.{both}
 use Rattle.tree.specs.Loading.{Tells, Nameable, BothNameable}
-use Rattle.tree.proofs.may_name_both.Statement.{statement}
-use Rattle.tree.proofs.may_name_both.Tie as tie
+use Rattle.tree.proofs.may_name_both.Goals as goal
 
 the_same : {w : List ℕ} {n k one two : ℕ} → one ≡ two → Tells (BothNameable w n k one two) false
 the_same e = record { yes = λ f. both f refl; no = λ f p. p.different e }
@@ -23,20 +22,17 @@ by_second {r} d t e u =
 
 ruleset all = (the_same, not_first, by_second, rules)
 
-returns : tie.Need-returns
+pub returns-then-one-two : goal.returns-then-one-two
+returns-then-one-two c = search all
+
+pub may_name-requires : goal.may_name-requires
+may_name-requires c = search all
+
+pub returns-then-not-may_name : goal.returns-then-not-may_name
+returns-then-not-may_name c = search all
+
+pub may_name-requires-2 : goal.may_name-requires-2
+may_name-requires-2 c = search all
+
+pub returns : goal.returns
 returns c = search all
-
-may-name-requires : tie.Need-may-name-requires
-may-name-requires c κs = search all
-
-returns-2 : tie.Need-returns-2
-returns-2 c = search all
-
-may-name-requires-2 : tie.Need-may-name-requires-2
-may-name-requires-2 c κs = search all
-
-returns-3 : tie.Need-returns-3
-returns-3 c = search all
-
-pub may-name-both-spec : {M : Type 1} → statement M
-may-name-both-spec = tie.close (tie.spec returns may-name-requires returns-2 may-name-requires-2 returns-3)

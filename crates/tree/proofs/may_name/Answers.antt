@@ -12,8 +12,7 @@ use Rattle.slate.specs.Slate.{Held}
 use Rattle.paper.specs.Record.{nodes_of}
 use Rattle.paper.proofs.ListLaws.{both}
 use Rattle.tree.specs.Loading.{Tells, Nameable}
-use Rattle.tree.proofs.may_name.Statement.{statement}
-use Rattle.tree.proofs.may_name.Tie as tie
+use Rattle.tree.proofs.may_name.Goals as goal
 
 not_above : {w : List ℕ} {n k c : ℕ} → c ≤ k → Tells (Nameable w n k c) false
 not_above l = record { yes = λ e. both e refl; no = λ e p. omega (arith, p.above) }
@@ -30,23 +29,14 @@ by_mark {x} l m h =
 
 ruleset all = (by_mark, rules)
 
-returns : tie.Need-returns
-returns c = not_above (omega arith)
+pub returns-then-c-k : goal.returns-then-c-k
+returns-then-c-k c = not_above (omega arith)
 
-mul-if2 : tie.Need-overflow-mul-if2
-mul-if2 c = search all
+pub returns-then-n-c : goal.returns-then-n-c
+returns-then-n-c c = no_node (omega arith)
 
-sub-if2 : tie.Need-overflow-sub-if2
-sub-if2 c = search all
+pub cell-requires : goal.cell-requires
+cell-requires c = search all
 
-returns-2 : tie.Need-returns-2
-returns-2 c = no_node (omega arith)
-
-cell-requires : tie.Need-cell-requires
-cell-requires c κs = search all
-
-returns-3 : tie.Need-returns-3
-returns-3 c = search all
-
-pub may-name-spec : {M : Type 1} → statement M
-may-name-spec = tie.close (tie.spec returns mul-if2 sub-if2 returns-2 cell-requires returns-3)
+pub returns : goal.returns
+returns c = search all

@@ -12,8 +12,7 @@ use Rattle.paper.specs.Field.{hole_at}
 use Rattle.paper.proofs.ListLaws.{both}
 use Rattle.field.specs.Boxes.{HoleIn, side_on}
 use Rattle.tree.specs.Parting.{goes, Placing, HolePlaced}
-use Rattle.tree.proofs.place.Statement.{statement}
-use Rattle.tree.proofs.place.Tie as tie
+use Rattle.tree.proofs.place.Goals as goal
 
 module _ {old hs : List ℕ} {d k x from yes no h : ℕ} (p : Placing old hs d k x from yes no) (l : Held old ORDER from h) where
   hole_there : HoleIn hs d h
@@ -32,30 +31,20 @@ module _ {old hs : List ℕ} {d k x from yes no h : ℕ} (p : Placing old hs d k
 
 ruleset all = (hole_there, placed_first, placed_second, rules)
 
-cell-requires : tie.Need-cell-requires
-cell-requires c κs = search all
+pub cell-hole-requires : goal.cell-hole-requires
+cell-hole-requires c = search all
 
-goes-first-requires : tie.Need-goes-first-requires
-goes-first-requires c κs = search all
+pub goes_first-requires : goal.goes_first-requires
+goes_first-requires c = search all
 
-set-cell-requires : tie.Need-set-cell-requires
-set-cell-requires c κs = search all
+pub set_cell-requires : goal.set_cell-requires
+set_cell-requires c = search all
 
-same_length : tie.Need-same-length
-same_length c = search all
+pub returns-then-goes_first : goal.returns-then-goes_first
+returns-then-goes_first c = search all
 
-returns : tie.Need-returns
+pub set_cell-requires-2 : goal.set_cell-requires-2
+set_cell-requires-2 c = search all
+
+pub returns : goal.returns
 returns c = search all
-
-set-cell-requires-2 : tie.Need-set-cell-requires-2
-set-cell-requires-2 c κs = search all
-
-same-length-2 : tie.Need-same-length-2
-same-length-2 c = search all
-
-returns-2 : tie.Need-returns-2
-returns-2 c = search all
-
-pub place-spec : {M : Type 1} → statement M
-place-spec =
-    tie.close (tie.spec cell-requires goes-first-requires set-cell-requires same_length returns set-cell-requires-2 same-length-2 returns-2)

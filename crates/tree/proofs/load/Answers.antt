@@ -16,8 +16,7 @@ use Rattle.tree.specs.Standing.{tree_in}
 use Rattle.tree.specs.Steps.{Loading}
 use Rattle.tree.specs.Loading.{LoadedTo, NodeTried}
 use Rattle.tree.proofs.Views.{in_holes, alike_on}
-use Rattle.tree.proofs.load.Statement.{statement}
-use Rattle.tree.proofs.load.Tie as tie
+use Rattle.tree.proofs.load.Goals as goal
 
 start : (ns : List ℕ) {old mid new : List ℕ} {n : ℕ} → Cleared old mid MARKS (nodes_of n) → Cleared mid new SCRATCH n → n ≤ 1_024
     → LoadedTo (tree_in ns n) 0 new
@@ -65,53 +64,23 @@ ruleset all = (start, turn, rules)
 
 ruleset ends = (same-long, stop, done, rules)
 
-abbrev invariant_loop : tie.invariant-loop
-invariant_loop work₀ nodes n count k₀ work k = (k ≤ count) × (length work ≡ length work₀) × LoadedTo (tree_in nodes n) k work
+pub clear-requires : goal.clear-requires
+clear-requires c = search all
 
-abbrev decreases_loop : tie.decreases-loop
-decreases_loop work₀ nodes n count k₀ work k = count - k
+pub clear-requires-2 : goal.clear-requires-2
+clear-requires-2 c = search all
 
-mul-count : tie.Need-overflow-mul-count invariant_loop decreases_loop
-mul-count c = search all
+pub loop-k-init : goal.loop-k-init
+loop-k-init c = search all
 
-sub-count : tie.Need-overflow-sub-count invariant_loop decreases_loop
-sub-count c = search all
+pub load_node-requires : goal.load_node-requires
+load_node-requires c = search all
 
-clear-requires : tie.Need-clear-requires invariant_loop decreases_loop
-clear-requires c κs = search all
+pub returns-then-not-load_node : goal.returns-then-not-load_node
+returns-then-not-load_node c = search ends
 
-clear-requires-2 : tie.Need-clear-requires-2 invariant_loop decreases_loop
-clear-requires-2 c κs = search all
+pub loop-k-preserved : goal.loop-k-preserved
+loop-k-preserved c = search all
 
-loop-holds : tie.Need-loop-init invariant_loop decreases_loop
-loop-holds c = search all
-
-load-node-requires : tie.Need-load-node-requires invariant_loop decreases_loop
-load-node-requires c κs = search all
-
-same_length : tie.Need-same-length invariant_loop decreases_loop
-same_length c = search all
-
-returns : tie.Need-returns invariant_loop decreases_loop
+pub returns : goal.returns
 returns c = search ends
-
-add-k : tie.Need-overflow-add-k invariant_loop decreases_loop
-add-k c = search all
-
-loop-less : tie.Need-loop-smaller invariant_loop decreases_loop
-loop-less c = search all
-
-loop-again : tie.Need-loop-preserved invariant_loop decreases_loop
-loop-again c = search all
-
-same-length-2 : tie.Need-same-length-2 invariant_loop decreases_loop
-same-length-2 c = search all
-
-returns-2 : tie.Need-returns-2 invariant_loop decreases_loop
-returns-2 c = search ends
-
-pub load_spec : {M : Type 1} → statement M
-load_spec =
-    tie.close
-    (tie.spec invariant_loop decreases_loop mul-count sub-count clear-requires clear-requires-2 loop-holds load-node-requires same_length returns add-k loop-less
-    loop-again same-length-2 returns-2)

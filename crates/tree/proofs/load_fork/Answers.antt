@@ -11,8 +11,7 @@ use Rattle.slate.specs.Columns.{MARKS}
 use Rattle.slate.specs.Slate.{Set, Within}
 use Rattle.tree.specs.Loading.{Tells, Tries, NodeRow, BothNameable, NodePut, ForkTried}
 use Rattle.tree.proofs.LoadTurns.{takes, refuses, marked}
-use Rattle.tree.proofs.load_fork.Statement.{statement}
-use Rattle.tree.proofs.load_fork.Tie as tie
+use Rattle.tree.proofs.load_fork.Goals as goal
 
 refused : {Q : Type 0} {w : List ℕ} {n k one two : ℕ} {r : Bool} → Tells (BothNameable w n k one two) r → not r ≡ true
     → Tries (BothNameable w n k one two) Q w w false
@@ -41,30 +40,20 @@ module _ {old : List ℕ} {n k one two : ℕ} {r : Bool} (o : NodeRow old n k) (
 
 ruleset all = (refused, first_row, second_row, first_small, second_small, taken, rules)
 
-may-name-both-requires : tie.Need-may-name-both-requires
-may-name-both-requires c κs = search all
+pub may_name_both-requires : goal.may_name_both-requires
+may_name_both-requires c = search all
 
-same_length : tie.Need-same-length
-same_length c = search all
+pub returns-then-not-may_name_both : goal.returns-then-not-may_name_both
+returns-then-not-may_name_both c = search all
 
-returns : tie.Need-returns
+pub set_cell-requires : goal.set_cell-requires
+set_cell-requires c = search all
+
+pub set_cell-requires-2 : goal.set_cell-requires-2
+set_cell-requires-2 c = search all
+
+pub put_node-requires : goal.put_node-requires
+put_node-requires c = search all
+
+pub returns : goal.returns
 returns c = search all
-
-set-cell-requires : tie.Need-set-cell-requires
-set-cell-requires c κs = search all
-
-set-cell-requires-2 : tie.Need-set-cell-requires-2
-set-cell-requires-2 c κs = search all
-
-put-node-requires : tie.Need-put-node-requires
-put-node-requires c κs = search all
-
-same-length-2 : tie.Need-same-length-2
-same-length-2 c = search all
-
-returns-2 : tie.Need-returns-2
-returns-2 c = search all
-
-pub load-fork-spec : {M : Type 1} → statement M
-load-fork-spec =
-    tie.close (tie.spec may-name-both-requires same_length returns set-cell-requires set-cell-requires-2 put-node-requires same-length-2 returns-2)

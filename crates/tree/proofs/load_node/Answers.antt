@@ -12,8 +12,7 @@ use Rattle.tree.specs.Standing.{tree_in}
 use Rattle.tree.specs.Loading.{Next, LeafTried, ForkTried, NodeTried}
 use Rattle.tree.proofs.Views.{in_holes, in_node}
 use Rattle.tree.proofs.LoadTurns.{tries_as, leaf_rule, fork_rule, leaf-turn, fork-turn}
-use Rattle.tree.proofs.load_node.Statement.{statement}
-use Rattle.tree.proofs.load_node.Tie as tie
+use Rattle.tree.proofs.load_node.Goals as goal
 
 module _ {ns old : List ℕ} {n k one two : ℕ} (x : Next ns n k old) (p : Read 2 ns (4 * k) one) (q : Read 2 ns (4 * k + 2) two) where
   first : one ≡ (node (tree_in ns n) k).0
@@ -39,41 +38,20 @@ module _ {ns old : List ℕ} {n k one two : ℕ} (x : Next ns n k old) (p : Read
 
 ruleset all = (a_leaf, a_fork, rules)
 
-mul-get16 : tie.Need-overflow-mul-get16
-mul-get16 c = search all
+pub get16-one-requires : goal.get16-one-requires
+get16-one-requires c = search all
 
-get16-requires : tie.Need-get16-requires
-get16-requires c κs = search all
+pub get16-two-requires : goal.get16-two-requires
+get16-two-requires c = search all
 
-mul-get16-2 : tie.Need-overflow-mul-get16-2
-mul-get16-2 c = search all
+pub load_leaf-requires : goal.load_leaf-requires
+load_leaf-requires c = search all
 
-add-get16 : tie.Need-overflow-add-get16
-add-get16 c = search all
+pub returns-then-one-eq65535 : goal.returns-then-one-eq65535
+returns-then-one-eq65535 c = search all
 
-get16-requires-2 : tie.Need-get16-requires-2
-get16-requires-2 c κs = search all
+pub load_fork-requires : goal.load_fork-requires
+load_fork-requires c = search all
 
-load-leaf-requires : tie.Need-load-leaf-requires
-load-leaf-requires c κs = search all
-
-same_length : tie.Need-same-length
-same_length c = search all
-
-returns : tie.Need-returns
+pub returns : goal.returns
 returns c = search all
-
-load-fork-requires : tie.Need-load-fork-requires
-load-fork-requires c κs = search all
-
-same-length-2 : tie.Need-same-length-2
-same-length-2 c = search all
-
-returns-2 : tie.Need-returns-2
-returns-2 c = search all
-
-pub load-node-spec : {M : Type 1} → statement M
-load-node-spec =
-    tie.close
-    (tie.spec mul-get16 get16-requires mul-get16-2 add-get16 get16-requires-2 load-leaf-requires same_length returns load-fork-requires
-    same-length-2 returns-2)

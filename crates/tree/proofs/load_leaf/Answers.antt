@@ -10,8 +10,7 @@ use Rattle.slate.specs.Slate.{Set, Held}
 use Rattle.paper.specs.Record.{leaf_mark}
 use Rattle.tree.specs.Loading.{Tries, NodeRow, Holdable, NodePut, LeafTried}
 use Rattle.tree.proofs.LoadTurns.{takes, refuses, marked_once}
-use Rattle.tree.proofs.load_leaf.Statement.{statement}
-use Rattle.tree.proofs.load_leaf.Tie as tie
+use Rattle.tree.proofs.load_leaf.Goals as goal
 
 no_hole : {Q : Type 0} {w : List ℕ} {n h : ℕ} → n ≤ h → Tries (Holdable w n h) Q w w false
 no_hole l = refuses (λ p. omega (arith, p.hole))
@@ -26,29 +25,20 @@ taken o l s e t p =
 
 ruleset all = (held, taken, rules)
 
-returns : tie.Need-returns
-returns c = no_hole (omega arith)
+pub returns-then-n-h : goal.returns-then-n-h
+returns-then-n-h c = no_hole (omega arith)
 
-cell-requires : tie.Need-cell-requires
-cell-requires c κs = search all
+pub cell-requires : goal.cell-requires
+cell-requires c = search all
 
-same_length : tie.Need-same-length
-same_length c = search all
+pub returns-then-cell-ne0 : goal.returns-then-cell-ne0
+returns-then-cell-ne0 c = search all
 
-returns-2 : tie.Need-returns-2
-returns-2 c = search all
+pub set_cell-requires : goal.set_cell-requires
+set_cell-requires c = search all
 
-set-cell-requires : tie.Need-set-cell-requires
-set-cell-requires c κs = search all
+pub put_node-requires : goal.put_node-requires
+put_node-requires c = search all
 
-put-node-requires : tie.Need-put-node-requires
-put-node-requires c κs = search all
-
-same-length-2 : tie.Need-same-length-2
-same-length-2 c = search all
-
-returns-3 : tie.Need-returns-3
-returns-3 c = search all
-
-pub load-leaf-spec : {M : Type 1} → statement M
-load-leaf-spec = tie.close (tie.spec returns cell-requires same_length returns-2 set-cell-requires put-node-requires same-length-2 returns-3)
+pub returns : goal.returns
+returns c = search all

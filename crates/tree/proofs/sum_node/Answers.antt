@@ -9,8 +9,7 @@ use Rattle.slate.specs.Slate.{Held}
 use Rattle.paper.specs.Record.{leaf_mark}
 use Rattle.field.specs.Boxes.{HoleIn}
 use Rattle.tree.specs.Summing.{LeafFilled, PartsAbove, ForkFilled, Summable, NodeSummed}
-use Rattle.tree.proofs.sum_node.Statement.{statement}
-use Rattle.tree.proofs.sum_node.Tie as tie
+use Rattle.tree.proofs.sum_node.Goals as goal
 
 module _ {w : List ℕ} {k one two : ℕ} (f : Held w FIRST k one) (g : Held w SECOND k two) where
   leaf_ready : {hs : List ℕ} {d : ℕ} → Summable w hs d k → one ≡ leaf_mark → HoleIn hs d two
@@ -27,29 +26,20 @@ module _ {w : List ℕ} {k one two : ℕ} (f : Held w FIRST k one) (g : Held w S
 
 ruleset all = (leaf_ready, fork_ready, leaf_summed, fork_summed, rules)
 
-cell-requires : tie.Need-cell-requires
-cell-requires c κs = search all
+pub cell-one-requires : goal.cell-one-requires
+cell-one-requires c = search all
 
-cell-requires-2 : tie.Need-cell-requires-2
-cell-requires-2 c κs = search all
+pub cell-two-requires : goal.cell-two-requires
+cell-two-requires c = search all
 
-sum-leaf-requires : tie.Need-sum-leaf-requires
-sum-leaf-requires c κs = search all
+pub sum_leaf-requires : goal.sum_leaf-requires
+sum_leaf-requires c = search all
 
-sum-fork-requires : tie.Need-sum-fork-requires
-sum-fork-requires c κs = search all
+pub sum_fork-requires : goal.sum_fork-requires
+sum_fork-requires c = search all
 
-same_length : tie.Need-same-length
-same_length c = search all
+pub returns-then-one-eq65535 : goal.returns-then-one-eq65535
+returns-then-one-eq65535 c = search all
 
-returns : tie.Need-returns
-returns c = search all
-
-same-length-2 : tie.Need-same-length-2
-same-length-2 c = search all
-
-returns-2 : tie.Need-returns-2
-returns-2 c = search all
-
-pub sum-node-spec : {M : Type 1} → statement M
-sum-node-spec = tie.close (tie.spec cell-requires cell-requires-2 sum-leaf-requires sum-fork-requires same_length returns same-length-2 returns-2)
+pub returns-else-one-eq65535 : goal.returns-else-one-eq65535
+returns-else-one-eq65535 c = search all

@@ -9,8 +9,7 @@ use Rattle.paper.specs.Tree.{around}
 use Rattle.field.specs.Boxes.{NodeOn, box_on, Boxed}
 use Rattle.tree.specs.Summing.{SumsPut, PartsAbove, ForkFilled}
 use Rattle.tree.proofs.SumTurns.{put_box, filled}
-use Rattle.tree.proofs.sum_fork.Statement.{statement}
-use Rattle.tree.proofs.sum_fork.Tie as tie
+use Rattle.tree.proofs.sum_fork.Goals as goal
 
 module _ {old : List ℕ} {a b : ℕ} (i j : ℕ) (x : Held old HOLES i a) (y : Held old HOLES j b) where
   sum_fits : {k : ℕ} → PartsAbove old k i j → a + b < 65_536
@@ -22,29 +21,20 @@ module _ {old : List ℕ} {a b : ℕ} (i j : ℕ) (x : Held old HOLES i a) (y : 
 
 ruleset all = (sum_fits, forked, rules)
 
-cell-requires : tie.Need-cell-requires
-cell-requires c κs = search all
+pub cell-requires : goal.cell-requires
+cell-requires c = search all
 
-cell-requires-2 : tie.Need-cell-requires-2
-cell-requires-2 c κs = search all
+pub cell-requires-2 : goal.cell-requires-2
+cell-requires-2 c = search all
 
-add-m : tie.Need-overflow-add-m
-add-m c = search all
+pub lowest_of-l-requires : goal.lowest_of-l-requires
+lowest_of-l-requires c = search all
 
-lowest-of-requires : tie.Need-lowest-of-requires
-lowest-of-requires c κs = search all
+pub put_sums-requires : goal.put_sums-requires
+put_sums-requires c = search all
 
-put-sums-requires : tie.Need-put-sums-requires
-put-sums-requires c κs = search all
+pub set_around-requires : goal.set_around-requires
+set_around-requires c = search all
 
-set-around-requires : tie.Need-set-around-requires
-set-around-requires c κs = search all
-
-same_length : tie.Need-same-length
-same_length c = search all
-
-returns : tie.Need-returns
+pub returns : goal.returns
 returns c = search all
-
-pub sum-fork-spec : {M : Type 1} → statement M
-sum-fork-spec = tie.close (tie.spec cell-requires cell-requires-2 add-m lowest-of-requires put-sums-requires set-around-requires same_length returns)

@@ -9,8 +9,7 @@ use Rattle.slate.specs.Slate.{Held, Set}
 use Rattle.slate.proofs.Frames.{set-cell}
 use Rattle.tree.specs.Ranking.{LeafReady, LeafRanked}
 use Rattle.tree.proofs.Sets.{two_sets}
-use Rattle.tree.proofs.rank_leaf.Statement.{statement}
-use Rattle.tree.proofs.rank_leaf.Tie as tie
+use Rattle.tree.proofs.rank_leaf.Goals as goal
 
 ranked : {old mid new : List ℕ} {k from hole : ℕ} → LeafReady old k → Held old FROM k from → Held old SECOND k hole
     → Set old mid ORDER from hole → Set mid new RANK hole from → LeafRanked old new k
@@ -20,23 +19,17 @@ ranked {from} r f h p q =
 
 ruleset all = (ranked, rules)
 
-cell-requires : tie.Need-cell-requires
-cell-requires c κs = search all
+pub cell-from-requires : goal.cell-from-requires
+cell-from-requires c = search all
 
-cell-requires-2 : tie.Need-cell-requires-2
-cell-requires-2 c κs = search all
+pub cell-hole-requires : goal.cell-hole-requires
+cell-hole-requires c = search all
 
-set-cell-requires : tie.Need-set-cell-requires
-set-cell-requires c κs = search all
+pub set_cell-requires : goal.set_cell-requires
+set_cell-requires c = search all
 
-set-cell-requires-2 : tie.Need-set-cell-requires-2
-set-cell-requires-2 c κs = search all
+pub set_cell-requires-2 : goal.set_cell-requires-2
+set_cell-requires-2 c = search all
 
-same_length : tie.Need-same-length
-same_length c = search all
-
-returns : tie.Need-returns
+pub returns : goal.returns
 returns c = search all
-
-pub rank-leaf-spec : {M : Type 1} → statement M
-rank-leaf-spec = tie.close (tie.spec cell-requires cell-requires-2 set-cell-requires set-cell-requires-2 same_length returns)

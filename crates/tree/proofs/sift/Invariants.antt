@@ -1,0 +1,16 @@
+-- The first i holes of the stretch are sifted; a turn places one more. Assumes nothing.
+use mathlib.Core.Logic.{⊎_elim}
+use Prim.Native.Nat.{◌≤◌, ◌-◌}
+use borrow.Author.Rules.{rules}
+use Rattle.paper.specs.Field.{holes_at}
+use Rattle.paper.specs.Tree.{first}
+use Rattle.tree.specs.Planting.{stretch}
+use Rattle.tree.specs.Parting.{Sifted}
+use Rattle.tree.proofs.PartTurns.{sift_none, placing, goes_first, goes-second, sift_done}
+use Rattle.tree.proofs.sift.Given as goal
+
+abbrev pub invariant-loop-i : goal.invariant-loop-i
+invariant-loop-i l = (l.i ≤ l.m) × Sifted (first (holes_at l.d l.holes 0 l.n) (stretch l.initial.work l.lo l.m)) l.lo l.i l.initial.work l.work l.f
+
+abbrev pub decreases-loop-i : goal.decreases-loop-i
+decreases-loop-i l = l.m - l.i
