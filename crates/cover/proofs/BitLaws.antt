@@ -59,15 +59,15 @@ between_more lo mid hi j l h =
 
 -- ---- the bits of what `&` and a sum give
 
-pub bit_and : (a b j : ℕ) → bit (bit_and a b) j ≡ min (bit a j) (bit b j)
+pub bit-bit_and : (a b j : ℕ) → bit (bit_and a b) j ≡ min (bit a j) (bit b j)
 unfolding bit
-bit_and a b j =
+bit-bit_and a b j =
     rw (and_shr a b j, and_step (a / 2 ^ j) (b / 2 ^ j))
     (digits_mod (bit_and (a / 2 ^ j / 2) (b / 2 ^ j / 2)) {m = 2} {r = min (a / 2 ^ j % 2) (b / 2 ^ j % 2)} (omega arith))
 
-bit_or : (a b j : ℕ) → bit (bit_or a b) j ≡ max (bit a j) (bit b j)
+bit-bit_or : (a b j : ℕ) → bit (bit_or a b) j ≡ max (bit a j) (bit b j)
 unfolding bit
-bit_or a b j =
+bit-bit_or a b j =
     rw (or_shr a b j, or_step (a / 2 ^ j) (b / 2 ^ j))
     (digits_mod (bit_or (a / 2 ^ j / 2) (b / 2 ^ j / 2)) {m = 2} {r = max (a / 2 ^ j % 2) (b / 2 ^ j % 2)} (omega arith))
 
@@ -125,15 +125,15 @@ module _ (v lo hi : ℕ) (l : lo ≤ hi) where
   set_bits e j =
       let m : ℕ = 2 ^ hi - 2 ^ lo in
       let b : bit m j ≡ between lo hi j = mask_bit lo hi j l in
-      let z : min (bit v j) (bit m j) ≡ 0 = sym (bit_and v m j) ∙ rw e (no_bit j) in
-      rw (← or_disjoint v m e, bit_or v m j, ← b) (omega arith)
+      let z : min (bit v j) (bit m j) ≡ 0 = sym (bit-bit_and v m j) ∙ rw e (no_bit j) in
+      rw (← or_disjoint v m e, bit-bit_or v m j, ← b) (omega arith)
 
   pub full_bits : bit_and v (2 ^ hi - 2 ^ lo) ≡ 2 ^ hi - 2 ^ lo → (j : ℕ) → lo ≤ j → j < hi → bit v j ≡ 1
   unfolding bit
   full_bits e j a b =
       let m : ℕ = 2 ^ hi - 2 ^ lo in
       let o : bit m j ≡ 1 = mask_bit lo hi j l ∙ between_in lo hi j a b in
-      let z : min (bit v j) (bit m j) ≡ bit m j = sym (bit_and v m j) ∙ rw e in
+      let z : min (bit v j) (bit m j) ≡ bit m j = sym (bit-bit_and v m j) ∙ rw e in
       omega arith
 
   pub set_small : v < 65_536 → hi ≤ 16 → bit_and v (2 ^ hi - 2 ^ lo) ≡ 0 → v + (2 ^ hi - 2 ^ lo) < 65_536

@@ -1,0 +1,23 @@
+-- From a row that is given up to the end of its run every row is; so up to x every row is. Assumes nothing.
+use mathlib.Core.List.{List}
+use Prim.Native.Nat.{ℕ, ◌≤◌, ◌<◌, ◌+◌, ◌-◌}
+use native.Mathlib.Omega.{arith}
+use lib.Dec.{ltb}
+use borrow.Author.Tests.{ltb-true, ltb-false}
+use borrow.Author.Rules.{rules}
+use Rattle.slate.specs.Columns.{SKIP}
+use Rattle.slate.specs.Slate.{cell, Held}
+use Rattle.paper.proofs.ListLaws.{cases}
+use Rattle.cover.specs.Marks.{Skips, Gone}
+use Rattle.cover.proofs.next_kept.Given as goal
+
+-- up to x every row is given up, whatever x is
+pub record GoneTo (w : List ℕ) (lo x : ℕ) : Type 0 where
+  pub after : lo ≤ x
+  pub gone : (start end : ℕ) → Skips w start end → start ≤ lo → (i : ℕ) → lo ≤ i → i < x → i < end → 0 < cell w SKIP i
+
+abbrev pub invariant-loop-x : goal.invariant-loop-x
+invariant-loop-x l = GoneTo l.work l.lo l.x
+
+abbrev pub decreases-loop-x : goal.decreases-loop-x
+decreases-loop-x l = l.hi - l.x
