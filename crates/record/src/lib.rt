@@ -23,7 +23,7 @@ use field::Found;
 use paper::{Checked, Refusal, Wrote};
 
 // A record's ratio, its counts, and where its parts start.
-#[derive(Drop)]
+#[derive(Clone, Copy)]
 pub struct Parts {
     pub a: usize,
     pub b: usize,
@@ -35,7 +35,7 @@ pub struct Parts {
 }
 
 // Where a section of a record stands.
-#[derive(Drop)]
+#[derive(Clone, Copy)]
 pub struct Place {
     pub start: usize,
     pub size: usize,
