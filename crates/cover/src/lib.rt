@@ -12,7 +12,7 @@ ghost use Rattle.cover.specs.Marks.{Marked, RowsMarked, Gone, Passed, Advanced, 
 ghost use Rattle.cover.specs.Marks.{crossing, spanned, by_pair, by_pairs, Block, Blank, Judging, JudgingAll, Judged, Sifted, Goods};
 
 // What a search for two holes finds.
-#[derive(Drop)]
+#[derive(Clone, Copy)]
 pub enum Two {
     Both(usize, usize),
     Neither,

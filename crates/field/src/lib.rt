@@ -16,7 +16,7 @@ ghost use Rattle.field.specs.Reach.{reach};
 ghost use Rattle.field.specs.Sides.{side, side_around, twice_centre, gap_on, SideIn, Sided, Squared};
 
 // What a search over numbers finds: the least with a property.
-#[derive(Drop)]
+#[derive(Clone, Copy)]
 pub enum Found {
     At(usize),
     Nothing,

@@ -6,7 +6,7 @@ ghost use Rattle.std.specs.Prelude.{◌≡◌};
 ghost use Rattle.paper.specs.Refusals.{number, value};
 
 // Document 01's refusals, 1 to 17 in order. A case carries its value where the value is no constant.
-#[derive(Drop)]
+#[derive(Clone, Copy)]
 pub enum Refusal {
     Odd(u64),
     None,
@@ -28,28 +28,28 @@ pub enum Refusal {
 }
 
 // A call that finishes an output answers with the bytes it wrote.
-#[derive(Drop)]
+#[derive(Clone, Copy)]
 pub enum Wrote {
     Bytes(u64),
     Refused(Refusal),
 }
 
 // A taken record is answered with its holes and its pairs.
-#[derive(Drop)]
+#[derive(Clone, Copy)]
 pub enum Checked {
     Taken(u64, u64),
     Refused(Refusal),
 }
 
 // The closest pair: two holes and their squared distance.
-#[derive(Drop)]
+#[derive(Clone, Copy)]
 pub enum Closest {
     Holes(u64, u64, u64),
     Refused(Refusal),
 }
 
 // Whether every two holes keep the pitch.
-#[derive(Drop)]
+#[derive(Clone, Copy)]
 pub enum Pitch {
     Yes,
     No,

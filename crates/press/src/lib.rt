@@ -12,7 +12,7 @@ use paper::{Checked, Closest, Pitch, Refusal, Wrote};
 
 // Number 0 is done, with the values that the call gives; any other is the refusal, with its value first. What is not used is 0.
 #[repr(C)]
-#[derive(Drop)]
+#[derive(Clone, Copy)]
 pub struct Answer {
     pub number: u64,
     pub first: u64,
@@ -22,7 +22,7 @@ pub struct Answer {
 
 // A part of the caller's record.
 #[repr(C)]
-#[derive(Drop)]
+#[derive(Clone, Copy)]
 pub struct Part {
     pub start: u64,
     pub length: u64,

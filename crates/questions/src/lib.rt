@@ -18,14 +18,14 @@ use paper::{Checked, Closest, Pitch, Refusal, Wrote};
 use record::{Inspected, Parts};
 
 // What one inspection gives: the checker's answer and the closest pair.
-#[derive(Drop)]
+#[derive(Clone, Copy)]
 pub struct Looked {
     pub checked: Checked,
     pub closest: Closest,
 }
 
 // The lowest-numbered hole on each side of a pair, smaller number first.
-#[derive(Drop)]
+#[derive(Clone, Copy)]
 struct Link {
     first: usize,
     second: usize,

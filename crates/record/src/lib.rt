@@ -42,14 +42,14 @@ pub struct Place {
 }
 
 // What cutting a record gives.
-#[derive(Drop)]
+#[derive(Clone, Copy)]
 pub enum Division {
     Whole(Parts),
     Bad(Refusal),
 }
 
 // What inspecting a record gives.
-#[derive(Drop)]
+#[derive(Clone, Copy)]
 pub enum Inspected {
     Fine(Parts),
     Refused(Refusal),

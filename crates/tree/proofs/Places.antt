@@ -20,8 +20,8 @@ pub place_of : {h : ℕ} (l : List ℕ) → Memᴰ h l → (i : ℕ) × (i < len
 place_of [] m = absurd (mathlib.Core.List.Memᴰ.not-nil m)
 place_of {h} (x ∷ l) m =
     elim (mathlib.Core.List.Memᴰ.cases_cons m) [
-      inl e ↦ (0, omega arith, sym e)
-    | inr r ↦ let w : (i : ℕ) × (i < length l) × (get_or l i 0 ≡ h) = place_of l r in (suc w.0, omega (arith, w.1), w.2)
+      | inl e ↦ (0, omega arith, sym e)
+      | inr r ↦ let w : (i : ℕ) × (i < length l) × (get_or l i 0 ≡ h) = place_of l r in (suc w.0, omega (arith, w.1), w.2)
     ]
 
 pub at_place : (l : List ℕ) (i : ℕ) → i < length l → Memᴰ (get_or l i 0) l

@@ -26,8 +26,8 @@ loop-x-preserved c =
     let p = c.extent.ensures.0 in
     let q = c.extent-in-loop-x.ensures.0 in
     elim c.if-extent.branch [
-      then-extent w ↦ rw w.best-is (search rules, search rules, best-new _ _ _ _ _ _ inv.1 inv.2 p q w.if-extent.true)
-    | else-extent w ↦ rw w.best-is (search rules, search rules, best-stays _ _ _ _ _ _ inv.1 inv.2 p q w.if-extent.false)
+      | then-extent w ↦ rw w.best-is (search rules, search rules, best-new _ _ _ _ _ _ inv.1 inv.2 p q w.if-extent.true)
+      | else-extent w ↦ rw w.best-is (search rules, search rules, best-stays _ _ _ _ _ _ inv.1 inv.2 p q w.if-extent.false)
     ]
 
 pub returns : goal.returns
