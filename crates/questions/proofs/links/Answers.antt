@@ -9,8 +9,7 @@ use Rattle.paper.specs.Answers.{WritesLinks}
 use Rattle.paper.specs.declared.Wrote.{Wrote}
 use Rattle.record.specs.Outputs.{Made}
 use Rattle.record.proofs.Outputs.{zeroed, made_wiped}
-use Rattle.questions.proofs.links.Statement.{statement}
-use Rattle.questions.proofs.links.Tie as tie
+use Rattle.questions.proofs.links.Goals as goal
 
 linked : (bytes work mid out : List ℕ) {work' z out' : List ℕ} {r : Wrote} → z ≡ replicate (length out) 0 → length mid ≡ length work
     → Made (links bytes) (length work) z out' r → work' ≡ replicate (length mid) 0 → WritesLinks bytes r work work' out out'
@@ -18,23 +17,8 @@ linked bytes = made_wiped (links bytes)
 
 ruleset all = (rules)
 
-zero-requires : tie.Need-zero-requires
-zero-requires c κs = search all
+pub links_on-made-requires : goal.links_on-made-requires
+links_on-made-requires c = search zeroed
 
-links-on-requires : tie.Need-links-on-requires
-links-on-requires c κs = search zeroed
-
-wipe-requires : tie.Need-wipe-requires
-wipe-requires c κs = search all
-
-same_length : tie.Need-same-length
-same_length c = search all
-
-same-length-2 : tie.Need-same-length-2
-same-length-2 c = search all
-
-returns : tie.Need-returns
+pub returns : goal.returns
 returns c = search (linked, rules)
-
-pub links-spec : {M : Type 1} → statement M
-links-spec = tie.close (tie.spec zero-requires links-on-requires wipe-requires same_length same-length-2 returns)

@@ -7,8 +7,7 @@ use native.Mathlib.Omega.{arith}
 use lib.Dec.{leb}
 use borrow.Author.Tests.{lt-leb}
 use borrow.Author.Rules.{rules}
-use Rattle.questions.proofs.keeps_pitch.Statement.{statement}
-use Rattle.questions.proofs.keeps_pitch.Tie as tie
+use Rattle.questions.proofs.keeps_pitch.Goals as goal
 
 large : (p far : ℕ) → far < 1_099_511_627_776 → 1_048_576 ≤ p → false ≡ leb (p * p) far
 large p far l h = sym (lt-leb (p * p) far (omega (arith, mul-le-mul h h)))
@@ -18,14 +17,8 @@ small p l = let h : p ≤ 1_048_576 = omega arith in omega (arith, mul-le-mul h 
 
 ruleset all = (large, small, rules)
 
-returns : tie.Need-returns
+pub returns-then-p-ge1048576 : goal.returns-then-p-ge1048576
+returns-then-p-ge1048576 c = search all
+
+pub returns : goal.returns
 returns c = search all
-
-mul-result : tie.Need-overflow-mul-result
-mul-result c = search all
-
-returns-2 : tie.Need-returns-2
-returns-2 c = search all
-
-pub keeps-pitch-spec : {M : Type 1} → statement M
-keeps-pitch-spec = tie.close (tie.spec returns mul-result returns-2)

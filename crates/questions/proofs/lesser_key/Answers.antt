@@ -1,0 +1,12 @@
+-- The first axis tells, or the two nodes are looked at. Assumes nothing.
+use borrow.Author.Rules.{rules}
+use Rattle.questions.proofs.Keys.{axis-far, near}
+use Rattle.questions.proofs.lesser_key.Goals as goal
+
+ruleset all = (rules)
+
+pub returns-then-least-squared : goal.returns-then-least-squared
+returns-then-least-squared c = search axis-far
+
+pub returns : goal.returns
+returns c = search near
