@@ -10,9 +10,9 @@ use borrow.Author.Tests.{eq-eqb, ne_eqb, le-leb, lt-leb, leb-true, leb-false}
 use Rattle.paper.specs.Field.{square}
 use Rattle.paper.specs.Record.{view_of}
 use Rattle.paper.specs.Rules.{hole_count}
-use Rattle.paper.specs.Refusals.{refused, given, check}
+use Rattle.paper.specs.Refusals.{given, check}
 use Rattle.paper.specs.Questions.{apart, nearest, keeps, closest, pitch}
-use Rattle.paper.specs.Answers.{refuses, checked, found, pitched, TestsPitch}
+use Rattle.paper.specs.Answers.{refuses, found, pitched, TestsPitch}
 use Rattle.paper.specs.declared.Refusal.{Refusal}
 use Rattle.paper.specs.declared.Refusal.TheVariants as R
 use Rattle.paper.specs.declared.Checked.TheVariants as K

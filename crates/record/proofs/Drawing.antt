@@ -1,7 +1,7 @@
 -- The field's tree on the slate, with its boxes: the slate's separation and sides are the field's, so its pairs are too. Assumes nothing.
 use mathlib.Core.Path.{◌≡◌, sym, ap, ◌∙◌}
 use mathlib.Core.List.{List, map}
-use Prim.Native.Nat.{ℕ, ◌*◌, ◌-◌, ◌≤◌, ◌<◌}
+use Prim.Native.Nat.{ℕ, ◌*◌, ◌≤◌, ◌<◌}
 use native.Mathlib.Omega.{arith}
 use lib.ListN.{length}
 use Rattle.words.specs.Area.{word}
@@ -10,7 +10,7 @@ use Rattle.slate.specs.Slate.{Grid}
 use Rattle.paper.specs.Field.{holes_at}
 use Rattle.paper.specs.Tree.{Tree, leaf, fork, number, under, box_at, tree_of}
 use Rattle.paper.specs.Separation.{far, side}
-use Rattle.paper.specs.Pairs.{pairs, pairs_of, numbers}
+use Rattle.paper.specs.Pairs.{pairs_of, numbers}
 use Rattle.paper.specs.Record.{entries, nodes_of, leaf_mark}
 use Rattle.paper.specs.Rules.{hole_count, node_count}
 use Rattle.paper.specs.Refusals.{build}

@@ -10,7 +10,6 @@ use mir.Val.{Fits}
 use denote.Ref.{Bor}
 use lib.ListN.{length, replicate}
 use Rattle.paper.specs.Record.{Part, holes_part, nodes_part, pairs_part, holes_in}
-use Rattle.paper.specs.Refusals.{refused}
 use Rattle.paper.specs.Questions.{section}
 use Rattle.paper.specs.Answers.{Checks, PartAt, HandsBack}
 use Rattle.paper.specs.declared.Refusal.{Refusal}

@@ -1,7 +1,7 @@
 -- What the rules say of a node, and what is under it, depends on the nodes and on the number of holes alone: it is the same in two views of one
 -- tree. So what is shown of a tree on the work area holds of the record's. Assumes nothing.
 use mathlib.Core.Path.{◌≡◌, sym, ap, ap₂, ◌∙◌}
-use mathlib.Core.Logic.{◌⊎◌, inl, inr, ⊎_elim}
+use mathlib.Core.Logic.{inl, inr, ⊎_elim}
 use mathlib.Core.List.{◌++◌}
 use Prim.Native.Nat.{ℕ, ◌<◌}
 use native.Mathlib.Omega.{arith}

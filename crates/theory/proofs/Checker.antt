@@ -1,10 +1,10 @@
 -- The checker means the rules: it takes a record exactly when the record meets document 01's record rules, as statements. Every refusal not
 -- due gives one rule, and every rule keeps its refusal from being due; refusal 12 is kept out by the node rules alone. Assumes nothing.
 use mathlib.Core.Path.{◌≡◌, refl, ap, ap₂}
-use mathlib.Core.Logic.{◌↔◌, ◌≢◌, ◌⊎◌, inl, inr, ⊎_elim}
+use mathlib.Core.Logic.{◌↔◌, ◌≢◌, inl, inr, ⊎_elim}
 use mathlib.Core.Bool.{Bool, true}
 use mathlib.Core.List.{List, [], ◌∷◌, ◌++◌}
-use Prim.Native.Nat.{ℕ, ◌+◌, ◌*◌, ◌-◌, ◌/◌, ◌≤◌, ◌<◌}
+use Prim.Native.Nat.{ℕ, ◌*◌, ◌-◌, ◌/◌, ◌≤◌, ◌<◌}
 use native.Mathlib.Omega.{arith}
 use lib.Dec.{ltb}
 use lib.ListN.{get_or, length}

@@ -11,7 +11,7 @@ use Rattle.paper.specs.Lists.{count}
 use Rattle.paper.specs.Field.{Field}
 use Rattle.paper.specs.Tree.{Tree, leaf, number, under, tree_of}
 use Rattle.paper.specs.Separation.{far, side}
-use Rattle.paper.specs.Pairs.{comparisons, pairs, pairs_of, numbers}
+use Rattle.paper.specs.Pairs.{comparisons, pairs_of, numbers}
 use Rattle.paper.specs.Record.{leaf_mark, built, nodes_of}
 use Rattle.paper.specs.Rules.{node_count, pair_count, pair, NodeRule, PairRule, under_node, covers, covered_once, OnePair}
 use Rattle.paper.proofs.ListLaws.{cases}

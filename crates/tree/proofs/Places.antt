@@ -1,7 +1,7 @@
 -- Where a number stands in a list: a member has a place, what stands at a place is a member, and a number that stands in a list at most once has
 -- one place. A list in which each number below n stands once, and no other, has n elements: so all holes are under the root. Assumes nothing.
 use mathlib.Core.Path.{◌≡◌, refl, sym, ap}
-use mathlib.Core.Logic.{⊎_elim, inl, inr}
+use mathlib.Core.Logic.{inl, inr}
 use mathlib.Core.List.{List, [], ◌∷◌, Memᴰ}
 use Prim.Native.Nat.{ℕ, zero, suc, ◌≤◌, ◌<◌}
 use native.Mathlib.Omega.{arith}

@@ -1,4 +1,3 @@
--- Word by word: a bit up to c is set, and a turn takes c to the end of its word. Assumes nothing.
 use mathlib.Core.Path.{◌≡◌}
 use mathlib.Core.Bool.{Bool, true, false, not}
 use mathlib.Core.List.{List}

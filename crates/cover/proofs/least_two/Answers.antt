@@ -1,8 +1,6 @@
--- Up to hole i, and for it up to hole j, every two holes are covered exactly once, so that the first two that are not are the least. SCRATCH says 1
--- exactly where the count that it caps at two is 1, no row changes what is counted, and a rank that is kept is good. Assumes nothing.
 use mathlib.Core.Path.{◌≡◌, sym, ◌∙◌}
 use mathlib.Core.List.{List}
-use Prim.Native.Nat.{ℕ, ◌≤◌, ◌<◌, ◌+◌, ◌-◌, min}
+use Prim.Native.Nat.{ℕ, ◌≤◌, ◌<◌, ◌+◌, min}
 use native.Mathlib.Omega.{arith}
 use borrow.Author.Count.{below_more}
 use borrow.Author.Rules.{rules}

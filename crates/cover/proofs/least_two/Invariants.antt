@@ -1,20 +1,11 @@
 -- Up to hole i, and for it up to hole j, every two holes are covered exactly once, so that the first two that are not are the least. SCRATCH says 1
 -- exactly where the count that it caps at two is 1, no row changes what is counted, and a rank that is kept is good. Assumes nothing.
-use mathlib.Core.Path.{◌≡◌, sym, ◌∙◌}
+use mathlib.Core.Path.{◌≡◌}
 use mathlib.Core.List.{List}
-use Prim.Native.Nat.{ℕ, ◌≤◌, ◌<◌, ◌+◌, ◌-◌, min}
-use native.Mathlib.Omega.{arith}
-use borrow.Author.Count.{below_more}
-use borrow.Author.Rules.{rules}
-use Rattle.slate.specs.Columns.{RANK, SCRATCH, SKIP}
-use Rattle.slate.specs.Slate.{cell, Held, Within}
-use Rattle.slate.proofs.Frames.{kept_none, kept_both, kept_cell}
-use Rattle.cover.specs.Spans.{coverings, Ready, Covering}
-use Rattle.cover.specs.Rows.{Beside, RowOn, Row}
-use Rattle.cover.specs.Marks.{Goods}
-use Rattle.cover.specs.declared.Two.{Two}
-use Rattle.cover.specs.declared.Two.TheVariants.{Both, Neither}
-use Rattle.cover.proofs.SpanLaws.{ready-kept, coverings_are, coverings-kept}
+use Prim.Native.Nat.{ℕ, ◌≤◌, ◌<◌, ◌-◌}
+use Rattle.cover.specs.Spans.{coverings}
+use Rattle.cover.specs.Rows.{Beside}
+use Rattle.cover.specs.declared.Two.TheVariants.{Neither}
 use Rattle.cover.proofs.least_two.Given as goal
 
 -- every two holes are covered exactly once whose first is below i; whose first is i and whose second is below j

@@ -1,15 +1,7 @@
 -- The first k pairs are marked, and a turn marks one more. It changes no span, so that each pair covers what it covered at the start.
 -- Assumes nothing.
-use mathlib.Core.Path.{◌≡◌, refl}
-use mathlib.Core.List.{List}
-use Prim.Native.Nat.{ℕ, ◌≤◌, ◌<◌, ◌+◌, ◌-◌}
-use native.Mathlib.Numerals.{add-one}
-use native.Mathlib.Omega.{arith}
-use borrow.Author.Rules.{rules}
-use Rattle.cover.specs.Rows.{meetings}
-use Rattle.cover.specs.Marks.{by_pair, by_pairs, PairMarking, PairsMarking, Marked}
-use Rattle.cover.proofs.SpanLaws.{one_pair, ready-kept, meeting-kept}
-use Rattle.cover.proofs.MarkLaws.{marked-none, marked_as, marked_more, block_kept}
+use Prim.Native.Nat.{◌≤◌, ◌-◌}
+use Rattle.cover.specs.Marks.{by_pairs, Marked}
 use Rattle.cover.proofs.mark_pairs.Given as goal
 
 abbrev pub invariant-loop-k : goal.invariant-loop-k

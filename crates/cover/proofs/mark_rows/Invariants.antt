@@ -1,13 +1,7 @@
 -- In the block the ranks from x up to y are those from lo up to hi; the rows up to `at` are marked. Assumes nothing.
-use mathlib.Core.Path.{◌≡◌}
-use mathlib.Core.List.{List}
-use Prim.Native.Nat.{ℕ, ◌≤◌, ◌<◌, ◌-◌, min, max}
-use native.Mathlib.Omega.{arith}
-use borrow.Author.Rules.{rules}
+use Prim.Native.Nat.{◌≤◌, ◌-◌}
 use Rattle.cover.specs.Bits.{between}
-use Rattle.cover.specs.Marks.{crossing, RowsIn, BlockIn, Marked, RowsMarked, Advanced}
-use Rattle.cover.proofs.BitLaws.{between_none, between-same}
-use Rattle.cover.proofs.MarkLaws.{marked-none, marked_as, rows_none, rows_more}
+use Rattle.cover.specs.Marks.{RowsMarked}
 use Rattle.cover.proofs.mark_rows.Given as goal
 
 abbrev pub invariant-loop-at : goal.invariant-loop-at

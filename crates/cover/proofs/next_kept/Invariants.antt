@@ -1,14 +1,9 @@
 -- From a row that is given up to the end of its run every row is; so up to x every row is. Assumes nothing.
 use mathlib.Core.List.{List}
-use Prim.Native.Nat.{ℕ, ◌≤◌, ◌<◌, ◌+◌, ◌-◌}
-use native.Mathlib.Omega.{arith}
-use lib.Dec.{ltb}
-use borrow.Author.Tests.{ltb-true, ltb-false}
-use borrow.Author.Rules.{rules}
+use Prim.Native.Nat.{ℕ, ◌≤◌, ◌<◌, ◌-◌}
 use Rattle.slate.specs.Columns.{SKIP}
-use Rattle.slate.specs.Slate.{cell, Held}
-use Rattle.paper.proofs.ListLaws.{cases}
-use Rattle.cover.specs.Marks.{Skips, Gone}
+use Rattle.slate.specs.Slate.{cell}
+use Rattle.cover.specs.Marks.{Skips}
 use Rattle.cover.proofs.next_kept.Given as goal
 
 -- up to x every row is given up, whatever x is

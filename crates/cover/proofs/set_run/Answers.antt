@@ -1,4 +1,3 @@
--- Word by word: the bits up to c are set, and a turn takes c to the end of its word. No other word has a bit between. Assumes nothing.
 use mathlib.Core.Path.{◌≡◌}
 use mathlib.Core.Bool.{Bool, true, false, not}
 use mathlib.Core.List.{List}

@@ -1,4 +1,3 @@
--- The ranks from `end` on are sifted, and a turn sifts a block below them; it leaves their SKIP. Assumes nothing.
 use mathlib.Core.Path.{◌≡◌, sym, ◌∙◌}
 use mathlib.Core.List.{List}
 use Prim.Native.Nat.{ℕ, ◌≤◌, ◌-◌, max}

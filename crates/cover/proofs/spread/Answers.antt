@@ -1,7 +1,6 @@
--- What is open at a rank is that of the rank before it with its own two wide cells, and SCRATCH, which is set, is none of them. Assumes nothing.
 use mathlib.Core.Path.{◌≡◌, refl, ap, ◌∙◌}
 use mathlib.Core.List.{List}
-use Prim.Native.Nat.{ℕ, ◌≤◌, ◌<◌, ◌+◌, ◌-◌, min}
+use Prim.Native.Nat.{ℕ, ◌≤◌, ◌<◌, ◌+◌, min}
 use native.Mathlib.Omega.{arith}
 use borrow.Author.Rules.{rules}
 use borrow.Author.Count.{below_more}

@@ -1,15 +1,6 @@
 -- What is open at a rank is that of the rank before it with its own two wide cells, and SCRATCH, which is set, is none of them. Assumes nothing.
-use mathlib.Core.Path.{◌≡◌, refl, ap, ◌∙◌}
-use mathlib.Core.List.{List}
-use Prim.Native.Nat.{ℕ, ◌≤◌, ◌<◌, ◌+◌, ◌-◌, min}
-use native.Mathlib.Omega.{arith}
-use borrow.Author.Rules.{rules}
-use borrow.Author.Count.{below_more}
-use Rattle.slate.specs.Columns.{MARKS, SCRATCH, TALLY}
-use Rattle.slate.specs.Slate.{cell, Set}
-use Rattle.slate.proofs.Frames.{set-cell, kept_none, kept_set, kept_both}
-use Rattle.cover.specs.Rows.{upto, Open, Spreading, Opening, Spread}
-use Rattle.cover.proofs.RowLaws.{upto_most, upto_kept}
+use Prim.Native.Nat.{◌≤◌, ◌-◌}
+use Rattle.cover.specs.Rows.{Open, Spread}
 use Rattle.cover.proofs.spread.Given as goal
 
 abbrev pub invariant-loop-r : goal.invariant-loop-r

@@ -1,8 +1,6 @@
--- The first k pairs are counted, and a turn counts one more. It changes no span, so that each pair covers what it covered at the start.
--- Assumes nothing.
 use mathlib.Core.Path.{◌≡◌, refl}
 use mathlib.Core.List.{List}
-use Prim.Native.Nat.{ℕ, ◌≤◌, ◌<◌, ◌+◌, ◌-◌}
+use Prim.Native.Nat.{ℕ, ◌≤◌, ◌<◌, ◌+◌}
 use native.Mathlib.Nat.{zero-add}
 use native.Mathlib.Numerals.{add-one}
 use native.Mathlib.Omega.{arith}

@@ -1,16 +1,7 @@
 -- The first k pairs are counted, and a turn counts one more. It changes no span, so that each pair covers what it covered at the start.
 -- Assumes nothing.
-use mathlib.Core.Path.{◌≡◌, refl}
-use mathlib.Core.List.{List}
-use Prim.Native.Nat.{ℕ, ◌≤◌, ◌<◌, ◌+◌, ◌-◌}
-use native.Mathlib.Nat.{zero-add}
-use native.Mathlib.Numerals.{add-one}
-use native.Mathlib.Omega.{arith}
-use borrow.Author.Rules.{rules}
-use Rattle.cover.specs.Spans.{Ready}
-use Rattle.cover.specs.Rows.{pair_at, Open, meeting, meetings, PairSpans, Uncounted, Tallying, Tallied, Counted}
-use Rattle.cover.proofs.SpanLaws.{one_pair, ready-kept, meeting-kept}
-use Rattle.cover.proofs.RowLaws.{tallied_none, tallied_as, tallied_more}
+use Prim.Native.Nat.{◌≤◌, ◌-◌}
+use Rattle.cover.specs.Rows.{meetings, Tallied}
 use Rattle.cover.proofs.tally_pairs.Given as goal
 
 abbrev pub invariant-loop-k : goal.invariant-loop-k

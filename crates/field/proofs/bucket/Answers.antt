@@ -1,7 +1,4 @@
--- b is the bucket by the first x coordinates; a turn adds one. Assumes nothing.
-use Prim.Native.Nat.{◌≤◌, ◌-◌, ◌*◌}
 use borrow.Author.Rules.{rules}
-use Rattle.field.specs.Buckets.{Bucketed}
 use Rattle.field.proofs.Chains.{bucket_none, bucket_more, bucket_done}
 use Rattle.field.proofs.bucket.Goals as goal
 

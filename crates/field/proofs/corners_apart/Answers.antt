@@ -1,7 +1,6 @@
--- The sum is the squared distance of the corners on the first x axes; a turn adds one. Assumes nothing.
 use mathlib.Core.Path.{◌≡◌}
 use mathlib.Core.List.{List}
-use Prim.Native.Nat.{ℕ, ◌≤◌, ◌+◌, ◌-◌, ◌*◌}
+use Prim.Native.Nat.{ℕ, ◌≤◌, ◌+◌}
 use borrow.Author.Rules.{rules}
 use Rattle.paper.specs.Field.{distance²}
 use Rattle.field.specs.Boxes.{box_on, low_end, corner}

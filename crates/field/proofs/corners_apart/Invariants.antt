@@ -1,12 +1,8 @@
 -- The sum is the squared distance of the corners on the first x axes; a turn adds one. Assumes nothing.
 use mathlib.Core.Path.{◌≡◌}
-use mathlib.Core.List.{List}
-use Prim.Native.Nat.{ℕ, ◌≤◌, ◌+◌, ◌-◌, ◌*◌}
-use borrow.Author.Rules.{rules}
+use Prim.Native.Nat.{◌≤◌, ◌-◌, ◌*◌}
 use Rattle.paper.specs.Field.{distance²}
-use Rattle.field.specs.Boxes.{box_on, low_end, corner}
-use Rattle.field.specs.Sides.{gap_on, Squared}
-use Rattle.field.proofs.Axis.{sum-none, sum_more, sum_all}
+use Rattle.field.specs.Boxes.{box_on, corner}
 use Rattle.field.proofs.corners_apart.Given as goal
 
 abbrev pub invariant-loop-x : goal.invariant-loop-x

@@ -1,10 +1,4 @@
--- best is the first axis that has the longest side of the first x; a turn looks at one side more. Assumes nothing.
-use mathlib.Core.Path.{◌≡◌}
-use mathlib.Core.Logic.{⊎_elim}
-use Prim.Native.Nat.{◌≤◌, ◌<◌, ◌-◌}
 use borrow.Author.Rules.{rules}
-use Rattle.paper.specs.Tree.{axis}
-use Rattle.field.specs.Boxes.{box_on}
 use Rattle.field.proofs.Longest.{best_start, best-new, best-stays, best_done}
 use Rattle.field.proofs.cut_axis.Goals as goal
 use Rattle.field.proofs.cut_axis.Goals.{then-extent, else-extent}

@@ -1,7 +1,6 @@
--- The sum is D of the boxes on the first x axes; a turn adds one. Assumes nothing.
 use mathlib.Core.Path.{◌≡◌}
 use mathlib.Core.List.{List}
-use Prim.Native.Nat.{ℕ, ◌≤◌, ◌+◌, ◌-◌, ◌*◌}
+use Prim.Native.Nat.{ℕ, ◌≤◌, ◌+◌}
 use borrow.Author.Rules.{rules}
 use Rattle.paper.specs.Separation.{C, D}
 use Rattle.field.specs.Boxes.{box_on}

@@ -1,14 +1,8 @@
 -- The sum is G of the box on the first x axes; a turn adds one. Assumes nothing.
 use mathlib.Core.Path.{◌≡◌}
-use mathlib.Core.List.{List}
-use Prim.Native.Nat.{ℕ, ◌≤◌, ◌+◌, ◌-◌, ◌*◌}
-use native.Mathlib.Omega.{arith}
-use borrow.Author.Rules.{rules}
-use Rattle.paper.specs.Tree.{long}
+use Prim.Native.Nat.{◌≤◌, ◌-◌, ◌*◌}
 use Rattle.paper.specs.Separation.{G}
-use Rattle.field.specs.Boxes.{side_on, box_on}
-use Rattle.field.specs.Sides.{Squared}
-use Rattle.field.proofs.Axis.{box_none, G_more}
+use Rattle.field.specs.Boxes.{box_on}
 use Rattle.field.proofs.girth.Given as goal
 
 abbrev pub invariant-loop-x : goal.invariant-loop-x

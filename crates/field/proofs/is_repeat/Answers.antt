@@ -1,6 +1,5 @@
--- A lower-numbered hole that stands where hole i does is ahead of c, until it is met; c falls. Assumes nothing.
 use borrow.Author.Rules.{rules}
-use Rattle.field.proofs.Chains.{Ahead, ahead_start, hole_ahead, met, ahead_lower, ahead_more, not_met}
+use Rattle.field.proofs.Chains.{ahead_start, hole_ahead, met, ahead_lower, ahead_more, not_met}
 use Rattle.field.proofs.is_repeat.Goals as goal
 
 ruleset all = (ahead_start, hole_ahead, met, ahead_lower, ahead_more, not_met, rules)

@@ -1,7 +1,6 @@
--- The greatest so far is the longest side of the box on the first x axes. Assumes nothing.
 use mathlib.Core.Path.{◌≡◌}
 use mathlib.Core.List.{List}
-use Prim.Native.Nat.{ℕ, ◌≤◌, ◌<◌, ◌+◌, ◌-◌, max}
+use Prim.Native.Nat.{ℕ, ◌≤◌, ◌<◌, ◌+◌, max}
 use native.Mathlib.Omega.{arith}
 use borrow.Author.Rules.{rules}
 use Rattle.paper.specs.Tree.{long, longest}

@@ -1,12 +1,8 @@
 -- The greatest so far is the longest side of the box on the first x axes. Assumes nothing.
 use mathlib.Core.Path.{◌≡◌}
-use mathlib.Core.List.{List}
-use Prim.Native.Nat.{ℕ, ◌≤◌, ◌<◌, ◌+◌, ◌-◌, max}
-use native.Mathlib.Omega.{arith}
-use borrow.Author.Rules.{rules}
-use Rattle.paper.specs.Tree.{long, longest}
-use Rattle.field.specs.Boxes.{side_on, box_on}
-use Rattle.field.proofs.Longest.{longest-none, longest_more}
+use Prim.Native.Nat.{◌≤◌, ◌<◌, ◌-◌}
+use Rattle.paper.specs.Tree.{longest}
+use Rattle.field.specs.Boxes.{box_on}
 use Rattle.field.proofs.longest_side.Given as goal
 
 abbrev pub invariant-loop-x : goal.invariant-loop-x

@@ -1,10 +1,5 @@
--- None of the first i holes is a repeat, until one is, and each of them is on the chain of its bucket. Assumes nothing.
-use Prim.Native.Nat.{◌-◌}
-use mathlib.Core.Path.{◌≡◌}
-use lib.ListN.{length}
 use borrow.Author.Rules.{rules}
-use Rattle.field.specs.Buckets.{Chained}
-use Rattle.field.proofs.Places.{hole_in, NoneBefore, none_before_start, none_before_more, first_repeat, no_repeats}
+use Rattle.field.proofs.Places.{hole_in, none_before_start, none_before_more, first_repeat, no_repeats}
 use Rattle.field.proofs.Chains.{chained_none, chained_more}
 use Rattle.field.proofs.repeated.Goals as goal
 

@@ -2,10 +2,8 @@
 use Prim.Native.Nat.{◌-◌}
 use mathlib.Core.Path.{◌≡◌}
 use lib.ListN.{length}
-use borrow.Author.Rules.{rules}
 use Rattle.field.specs.Buckets.{Chained}
-use Rattle.field.proofs.Places.{hole_in, NoneBefore, none_before_start, none_before_more, first_repeat, no_repeats}
-use Rattle.field.proofs.Chains.{chained_none, chained_more}
+use Rattle.field.proofs.Places.{NoneBefore}
 use Rattle.field.proofs.repeated.Given as goal
 
 abbrev pub invariant-loop-i : goal.invariant-loop-i

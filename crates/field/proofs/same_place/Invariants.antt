@@ -1,9 +1,7 @@
 -- The two places agree on the first x axes; a turn adds one. Assumes nothing.
 use mathlib.Core.Path.{◌≡◌}
 use Prim.Native.Nat.{◌≤◌, ◌-◌, ◌*◌}
-use borrow.Author.Rules.{rules}
 use Rattle.paper.specs.Field.{hole_at}
-use Rattle.field.proofs.Places.{alike_none, alike_more, alike_all, unlike}
 use Rattle.field.proofs.same_place.Given as goal
 
 abbrev pub invariant-loop-x : goal.invariant-loop-x

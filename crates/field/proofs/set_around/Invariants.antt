@@ -1,14 +1,7 @@
 -- The box is set on the first x axes; a turn sets one more, from boxes that are as they were. Assumes nothing.
-use mathlib.Core.Path.{◌≡◌, ap₂, subst}
-use mathlib.Core.List.{List}
-use Prim.Native.Nat.{ℕ, ◌≤◌, ◌<◌, ◌+◌, ◌-◌}
-use native.Mathlib.Omega.{arith}
-use borrow.Author.Rules.{rules}
+use Prim.Native.Nat.{◌≤◌, ◌-◌}
 use Rattle.paper.specs.Tree.{around}
-use Rattle.field.specs.Boxes.{side_on, box_on, NodeOn, Boxed}
-use Rattle.field.specs.Sides.{side_around, Sided}
-use Rattle.field.proofs.Boxes.{boxed-side}
-use Rattle.field.proofs.Axis.{box_none, around_more, boxed-none, boxed_more}
+use Rattle.field.specs.Boxes.{box_on, Boxed}
 use Rattle.field.proofs.set_around.Given as goal
 
 abbrev pub invariant-loop-x : goal.invariant-loop-x

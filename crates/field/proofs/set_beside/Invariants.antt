@@ -1,15 +1,10 @@
 -- The box is set on the first x axes, and the sides on the others are as they were; a turn sets one more. Assumes nothing.
-use mathlib.Core.Path.{◌≡◌, refl, ◌∙◌, subst}
+use mathlib.Core.Path.{◌≡◌}
 use mathlib.Core.List.{List}
-use Prim.Native.Nat.{ℕ, ◌≤◌, ◌<◌, ◌+◌, ◌-◌, ◌*◌}
-use native.Mathlib.Omega.{arith}
-use borrow.Author.Rules.{rules}
-use Rattle.words.specs.Words.{Read}
+use Prim.Native.Nat.{ℕ, ◌≤◌, ◌-◌, ◌*◌}
 use Rattle.paper.specs.Field.{hole_at}
-use Rattle.paper.specs.Tree.{Side, point, spot, around}
-use Rattle.field.specs.Boxes.{HoleIn, side_on, box_on, Boxed}
-use Rattle.field.specs.Sides.{side_around, Sided}
-use Rattle.field.proofs.Axis.{hole-none, box_none, beside_more, boxed-none, sided_left, boxed_more}
+use Rattle.paper.specs.Tree.{spot, around}
+use Rattle.field.specs.Boxes.{side_on, box_on, Boxed}
 use Rattle.field.proofs.set_beside.Given as goal
 
 pub record Beside (s : List ℕ) (k o : ℕ) (old new : List ℕ) (x : ℕ) : Type 0 where

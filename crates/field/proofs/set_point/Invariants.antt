@@ -1,15 +1,8 @@
 -- The box is set on the first x axes; a turn sets one more. Assumes nothing.
-use mathlib.Core.Path.{◌≡◌}
-use mathlib.Core.List.{List}
-use Prim.Native.Nat.{ℕ, ◌≤◌, ◌<◌, ◌+◌, ◌-◌, ◌*◌}
-use native.Mathlib.Omega.{arith}
-use borrow.Author.Rules.{rules}
-use Rattle.words.specs.Words.{Read}
+use Prim.Native.Nat.{◌≤◌, ◌-◌, ◌*◌}
 use Rattle.paper.specs.Field.{hole_at}
-use Rattle.paper.specs.Tree.{spot, point}
-use Rattle.field.specs.Boxes.{HoleIn, Boxed}
-use Rattle.field.specs.Sides.{Sided}
-use Rattle.field.proofs.Axis.{hole-none, spot_more, boxed-none, boxed_more}
+use Rattle.paper.specs.Tree.{spot}
+use Rattle.field.specs.Boxes.{Boxed}
 use Rattle.field.proofs.set_point.Given as goal
 
 abbrev pub invariant-loop-x : goal.invariant-loop-x

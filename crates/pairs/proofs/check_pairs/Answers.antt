@@ -1,8 +1,6 @@
--- The pairs below k are good. Assumes nothing.
 use mathlib.Core.Path.{refl}
-use Prim.Native.Nat.{◌≤◌, ◌-◌}
 use borrow.Author.Rules.{rules}
-use Rattle.pairs.proofs.PairTurns.{Good, start, turn, found, none}
+use Rattle.pairs.proofs.PairTurns.{start, turn, found, none}
 use Rattle.pairs.proofs.check_pairs.Goals as goal
 
 ruleset all = (start, turn, found, none, rules)

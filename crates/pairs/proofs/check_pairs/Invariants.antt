@@ -1,7 +1,6 @@
 -- The pairs below k are good. Assumes nothing.
 use Prim.Native.Nat.{◌≤◌, ◌-◌}
-use borrow.Author.Rules.{rules}
-use Rattle.pairs.proofs.PairTurns.{Good, start, turn, found, none}
+use Rattle.pairs.proofs.PairTurns.{Good}
 use Rattle.pairs.proofs.check_pairs.Given as goal
 
 abbrev pub invariant-loop-pair : goal.invariant-loop-pair

@@ -1,10 +1,8 @@
 -- The pairs of the nodes below k are listed; of all nodes, they are the pairs of the tree. Assumes nothing.
 use mathlib.Core.Path.{◌≡◌}
 use Prim.Native.Nat.{◌≤◌, ◌-◌}
-use borrow.Author.Rules.{rules}
 use Rattle.paper.specs.Record.{nodes_of}
 use Rattle.pairs.specs.Comparing.{pairs_below, Laid}
-use Rattle.pairs.proofs.InOrder.{none_below, node_next, node_turn, all_listed}
 use Rattle.pairs.proofs.list_pairs.Given as goal
 
 abbrev pub invariant-loop-k : goal.invariant-loop-k

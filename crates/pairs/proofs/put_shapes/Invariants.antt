@@ -1,9 +1,8 @@
 -- Node by node. Assumes nothing.
 use mathlib.Core.Path.{◌≡◌}
 use Prim.Native.Nat.{◌-◌}
-use borrow.Author.Rules.{rules}
 use Rattle.paper.specs.Record.{nodes_of}
-use Rattle.pairs.proofs.ShapeTurns.{ShapesBelow, shapes_none, shape_row, shape_more, shapes_all}
+use Rattle.pairs.proofs.ShapeTurns.{ShapesBelow}
 use Rattle.pairs.proofs.put_shapes.Given as goal
 
 abbrev pub invariant-loop-k : goal.invariant-loop-k

@@ -1,8 +1,6 @@
 -- The least key of the first k pairs; a turn takes one more. Assumes nothing.
 use Prim.Native.Nat.{◌≤◌, ◌-◌}
-use borrow.Author.Rules.{rules}
 use Rattle.questions.specs.Nearest.{LeastKey}
-use Rattle.questions.proofs.Keys.{pair_there, no_pair, pair_more, all_pairs}
 use Rattle.questions.proofs.least_key.Given as goal
 
 abbrev pub invariant-loop-k : goal.invariant-loop-k

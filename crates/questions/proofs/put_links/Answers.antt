@@ -1,8 +1,4 @@
--- The links of the first k pairs are written, and a turn writes one more. Assumes nothing.
-use Prim.Native.Nat.{◌≤◌, ◌-◌}
 use borrow.Author.Rules.{rules}
-use Rattle.words.specs.Words.{Written}
-use Rattle.questions.specs.Linking.{links_on}
 use Rattle.questions.proofs.LinkLaws.{no_link, link_more, all_links, link_fits}
 use Rattle.questions.proofs.put_links.Goals as goal
 

@@ -1,7 +1,5 @@
--- The first k nodes are written, and a turn writes one more. Assumes nothing.
-use Prim.Native.Nat.{◌≤◌, ◌-◌}
 use borrow.Author.Rules.{rules}
-use Rattle.record.proofs.PutLaws.{EntriesPut, none_put, one_put, all_put}
+use Rattle.record.proofs.PutLaws.{none_put, one_put, all_put}
 use Rattle.record.proofs.put_entries.Goals as goal
 
 ruleset all = (none_put, one_put, rules)

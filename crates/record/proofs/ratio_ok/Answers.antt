@@ -1,8 +1,8 @@
 -- The code's `&&` tests what the definition's does, from left to right. Assumes nothing.
-use Rattle.std.proofs.Common.{refl, arith, rules}
+use Rattle.std.proofs.Common.{refl, arith}
 use Rattle.std.proofs.lemmas.Grind.{common_steps}
-use borrow.Author.Tests.{le-leb, lt-leb}
-use Rattle.paper.specs.Field.{within, ratio_ok}
+use borrow.Author.Tests.{le-leb}
+use Rattle.paper.specs.Field.{ratio_ok}
 use Rattle.record.proofs.ratio_ok.Goals as goal
 
 pub returns-then-b-ge1 : goal.returns-then-b-ge1

@@ -1,5 +1,4 @@
 -- The pairs say how long the record is; the front is written before them where there is room. Assumes nothing.
-use Prim.Native.Nat.{◌-◌}
 use borrow.Author.Rules.{rules}
 use Rattle.record.proofs.BuildAnswers.{no_room, pairs_end, record-made}
 use Rattle.record.proofs.write_record.Goals as goal

@@ -1,7 +1,5 @@
--- Node k's box is that of the first i holes of the stretch; a turn puts the next hole into it. Assumes nothing.
-use Prim.Native.Nat.{◌≤◌, ◌-◌}
 use borrow.Author.Rules.{rules}
-use Rattle.tree.proofs.BoxTurns.{BoxTo, hole-first, hole_next, box_start, box_turn, box_done}
+use Rattle.tree.proofs.BoxTurns.{hole-first, hole_next, box_start, box_turn, box_done}
 use Rattle.tree.proofs.box_of.Goals as goal
 
 ruleset all = (hole-first, box_start, box_done, rules)

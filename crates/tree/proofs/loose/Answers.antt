@@ -1,12 +1,11 @@
--- No node above 0 and below k is without a mark, and the loop stops at the first that is. Assumes nothing.
 use mathlib.Core.Path.{◌≡◌, sym, ◌∙◌}
 use mathlib.Core.List.{List}
-use Prim.Native.Nat.{ℕ, ◌+◌, ◌-◌, ◌<◌, ◌≤◌}
+use Prim.Native.Nat.{ℕ, ◌+◌, ◌<◌, ◌≤◌}
 use native.Mathlib.Omega.{arith}
 use borrow.Author.Count.{below_more}
 use borrow.Author.Rules.{rules}
 use Rattle.slate.specs.Columns.{MARKS}
-use Rattle.slate.specs.Slate.{cell, Held}
+use Rattle.slate.specs.Slate.{Held}
 use Rattle.paper.specs.Record.{nodes_of}
 use Rattle.paper.specs.Refusals.{Least}
 use Rattle.tree.proofs.loose.Invariants.{Loose, NoneBelow, none}

@@ -1,14 +1,11 @@
 -- No node above 0 and below k is without a mark, and the loop stops at the first that is. Assumes nothing.
-use mathlib.Core.Path.{◌≡◌, sym, ◌∙◌}
+use mathlib.Core.Path.{◌≡◌}
 use mathlib.Core.List.{List}
-use Prim.Native.Nat.{ℕ, ◌+◌, ◌-◌, ◌<◌, ◌≤◌}
+use Prim.Native.Nat.{ℕ, ◌-◌, ◌<◌, ◌≤◌}
 use native.Mathlib.Omega.{arith}
-use borrow.Author.Count.{below_more}
-use borrow.Author.Rules.{rules}
 use Rattle.slate.specs.Columns.{MARKS}
-use Rattle.slate.specs.Slate.{cell, Held}
+use Rattle.slate.specs.Slate.{cell}
 use Rattle.paper.specs.Record.{nodes_of}
-use Rattle.paper.specs.Refusals.{Least}
 use Rattle.tree.proofs.loose.Given as goal
 
 -- a node above 0 without a mark, and that there is none below k

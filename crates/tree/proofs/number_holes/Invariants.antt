@@ -1,8 +1,6 @@
 -- The numbers below i stand in ORDER, and a turn puts i behind them. Assumes nothing.
 use Prim.Native.Nat.{◌≤◌, ◌-◌}
-use borrow.Author.Rules.{rules}
 use Rattle.tree.specs.Planting.{Numbered}
-use Rattle.tree.proofs.PlantCases.{numbered_none, numbered_more, numbered_all}
 use Rattle.tree.proofs.number_holes.Given as goal
 
 abbrev pub invariant-loop-i : goal.invariant-loop-i

@@ -1,20 +1,11 @@
 -- The nodes below k are ranked. The loop starts with the root's FROM set, which leaves the tree and its counts. Assumes nothing.
-use mathlib.Core.Path.{◌≡◌}
 use mathlib.Core.List.{List}
-use Prim.Native.Nat.{ℕ, ◌+◌, ◌-◌, ◌*◌, ◌≤◌, ◌<◌}
-use native.Mathlib.Omega.{arith}
-use borrow.Author.Rules.{rules}
+use Prim.Native.Nat.{ℕ, ◌-◌, ◌*◌, ◌≤◌}
 use Rattle.slate.specs.Columns.{FROM, MARKS}
-use Rattle.slate.specs.Slate.{Set, Kept}
-use Rattle.slate.proofs.Frames.{kept_none, kept_set, kept_both}
+use Rattle.slate.specs.Slate.{Kept}
 use Rattle.paper.specs.Record.{nodes_of}
-use Rattle.paper.specs.Rules.{node_count}
-use Rattle.tree.specs.Standing.{tree_on, Stands}
-use Rattle.tree.specs.Steps.{Counted, Ranked}
-use Rattle.tree.specs.Ranking.{NodeReady, NodeRanked}
-use Rattle.tree.proofs.Views.{on_holes, same-tree}
-use Rattle.tree.proofs.Stretches.{stretch_is}
-use Rattle.tree.proofs.RankTurns.{RankedTo, shows, shows_still, start, placed, fits, ready, turn-kept, turn, ranked-hole, order_is}
+use Rattle.tree.specs.Standing.{tree_on}
+use Rattle.tree.proofs.RankTurns.{RankedTo}
 use Rattle.tree.proofs.rank.Given as goal
 
 -- from `old` on only FROM, ORDER and RANK have changed, and the nodes below k are ranked

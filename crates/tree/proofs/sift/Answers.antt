@@ -1,10 +1,4 @@
--- The first i holes of the stretch are sifted; a turn places one more. Assumes nothing.
-use Prim.Native.Nat.{◌≤◌, ◌-◌}
 use borrow.Author.Rules.{rules}
-use Rattle.paper.specs.Field.{holes_at}
-use Rattle.paper.specs.Tree.{first}
-use Rattle.tree.specs.Planting.{stretch}
-use Rattle.tree.specs.Parting.{Sifted}
 use Rattle.tree.proofs.PartTurns.{sift_none, placing, goes_first, goes-second, sift_done}
 use Rattle.tree.proofs.sift.Goals as goal
 use Rattle.tree.proofs.sift.Goals.{then-place, else-place}

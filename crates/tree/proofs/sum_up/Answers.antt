@@ -1,6 +1,5 @@
--- The nodes from k on are summed up, and a turn sums up the one before. Assumes nothing.
 use borrow.Author.Rules.{rules}
-use Rattle.tree.proofs.SumTurns.{SummedFrom, start, done, ready, turn}
+use Rattle.tree.proofs.SumTurns.{start, done, ready, turn}
 use Rattle.tree.proofs.sum_up.Goals as goal
 
 ruleset all = (start, done, ready, turn, rules)

@@ -1,8 +1,6 @@
 -- The first i holes are back; a turn brings one more, and leaves SCRATCH. Assumes nothing.
 use Prim.Native.Nat.{◌≤◌, ◌-◌}
-use borrow.Author.Rules.{rules}
 use Rattle.tree.specs.Parting.{TakenBack}
-use Rattle.tree.proofs.PartTurns.{take_none, take_turn, take_done}
 use Rattle.tree.proofs.take_back.Given as goal
 
 abbrev pub invariant-loop-i : goal.invariant-loop-i

@@ -1,6 +1,5 @@
 -- Two bytes, each below 256, are the number that `be` makes of them. Assumes nothing.
 use native.Mathlib.Omega.{arith}
-use borrow.Author.Rules.{rules}
 use Rattle.words.specs.Words.{be}
 use Rattle.words.proofs.get16.Goals as goal
 

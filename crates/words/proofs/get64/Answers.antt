@@ -1,5 +1,4 @@
 -- A number in two halves. Assumes nothing.
-use borrow.Author.Rules.{rules}
 use Rattle.words.proofs.Laws.{read_wide}
 use Rattle.words.proofs.get64.Goals as goal
 

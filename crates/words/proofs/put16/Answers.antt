@@ -3,7 +3,6 @@ use mathlib.Core.Path.{refl}
 use native.Mathlib.Nat.{div-one}
 use native.Mathlib.Omega.{arith}
 use lib.ListN.{length-set}
-use borrow.Author.Rules.{rules}
 use Rattle.words.specs.Words.{bytes}
 use Rattle.words.proofs.Laws.{written_one, written_more}
 use Rattle.words.proofs.put16.Goals as goal

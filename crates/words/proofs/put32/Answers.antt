@@ -1,5 +1,4 @@
 -- Two halves, one after the other, are the bytes of the whole. Assumes nothing.
-use borrow.Author.Rules.{rules}
 use Rattle.words.proofs.Laws.{written-wide}
 use Rattle.words.proofs.put32.Goals as goal
 

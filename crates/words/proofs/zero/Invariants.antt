@@ -1,12 +1,8 @@
 -- The first i bytes are 0 and the others as they were, so after the last turn all are 0. Assumes nothing.
-use mathlib.Core.Path.{◌≡◌, refl}
-use mathlib.Core.List.{◌++◌, append-nil}
+use mathlib.Core.Path.{◌≡◌}
+use mathlib.Core.List.{◌++◌}
 use Prim.Native.Nat.{◌-◌, ◌≤◌}
-use native.Mathlib.Omega.{arith}
-use borrow.Author.Rules.{rules}
-use borrow.Author.Fill.{fill_more}
 use lib.ListN.{length, drop, replicate}
-use lib.Seq.{drop-length}
 use Rattle.words.proofs.zero.Given as goal
 
 abbrev pub invariant-loop-i : goal.invariant-loop-i
