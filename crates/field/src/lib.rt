@@ -288,7 +288,7 @@ fn weighed(x: usize, y: usize) -> usize
     x * x * y
 }
 
-// Whether D, here far, is not 0 and typeof.b².D >= (2b + a)²·G, here size.
+// Whether D, here far, is not 0 and b²·D >= (2b + a)²·G, here size.
 fn wide_enough(a: usize, b: usize, size: usize, far: usize) -> bool
     requires ratio { Ratio a b }
     requires size_bound { (size < 51539607552) × (far < 51539607552) }

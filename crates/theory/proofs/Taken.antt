@@ -1,5 +1,5 @@
 -- What holds of every record that is taken, whoever made it: the sides of a pair have no hole in common, and at a ratio above 2 the closest of the
--- one_hole pairs is the closest of all holes. The rules of the record give the rest. Assumes nothing.
+-- one-hole pairs is the closest of all holes. The rules of the record give the rest. Assumes nothing.
 use mathlib.Core.Path.{◌≡◌, refl, sym}
 use mathlib.Core.Logic.{◌↔◌}
 use mathlib.Core.List.{List, [], ◌∷◌, Memᴰ}
@@ -61,7 +61,7 @@ module _ (r : List ℕ) (ok : Record r) where
     taken-closest-listed =
         closest-listed (view_of r) 2 flat (rw (view_holes r) more) ratio holes_below (leaf_alone (view_of r) said.nodes) said.pairs said.covered
 
-    -- the least of the one_hole pairs is the least of all
+    -- the least of the one-hole pairs is the least of all
     pub taken-closest : (q : ℕ × ℕ) → LeastOneHole (view_of r) q ↔ (q ≡ nearest (view_of r).holes)
     taken-closest =
         closest-least (view_of r) 2 flat (rw (view_holes r) more) ratio holes_below (leaf_alone (view_of r) said.nodes) said.pairs said.covered
