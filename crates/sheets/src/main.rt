@@ -4,11 +4,13 @@
 // output that is expected.
 #![tactic(auto)]
 
-ghost use Rattle.std.specs.Prelude.{◌*◌, ◌<◌, ◌≤◌, length};
+ghost use Rattle.std.specs.Prelude.{◌*◌, ◌<◌, ◌≤◌, length, IfOk};
 
-use libc::STDOUT_FILENO;
 use paper::{Checked, Closest, Pitch, Refusal, Wrote};
 use record::Place;
+use std::io::Read;
+use std::rt::Files;
+use std::{env, fs, io};
 
 // An answer in numbers: 0 and what is given, or a refusal's number and its value.
 #[derive(Drop)]
@@ -120,31 +122,30 @@ fn called(call: usize, x: u64, y: u64, input: &[u8], work: &mut [u8], out: &mut 
     }
 }
 
-fn word(text: &[u8]) {
-    io::write_all(STDOUT_FILENO, text);
+fn word(rt: &impl Print, text: &str) -> io::Result<()> {
+    rt.print(text)
 }
 
-fn spaced(n: u64) {
-    word(b" ");
-    io::print_decimal(STDOUT_FILENO, n);
+fn spaced(rt: &impl Print, n: u64) -> io::Result<()> {
+    print!(rt; " {n}")
 }
 
 // Ends a line: what is right is ok, and of anything else the answer is printed.
-fn judged(right: bool, got: Told) -> bool {
+fn judged(rt: &impl Print, right: bool, got: Told) -> io::Result<bool> {
     if right {
-        word(b" ok\n");
-        return true;
+        word(rt, " ok\n")?;
+        return Ok(true);
     }
-    word(b" differs: answer");
-    spaced(got.number);
-    spaced(got.first);
-    spaced(got.second);
-    spaced(got.third);
-    word(b"\n");
-    false
+    word(rt, " differs: answer")?;
+    spaced(rt, got.number)?;
+    spaced(rt, got.first)?;
+    spaced(rt, got.second)?;
+    spaced(rt, got.third)?;
+    word(rt, "\n")?;
+    Ok(false)
 }
 
-fn alike(x: Told, y: Told) -> bool {
+fn alike(x: &Told, y: &Told) -> bool {
     x.number == y.number && x.first == y.first && x.second == y.second && x.third == y.third
 }
 
@@ -179,58 +180,78 @@ fn expected(file: &[u8]) -> Told
 }
 
 // Makes a case's call, and compares the answer, the whole output, and the work area with zero.
-fn tried(file: &[u8], input: &[u8], output: &[u8], work: &mut [u8], out: &mut [u8]) -> bool
+fn tried(
+    rt: &impl Print,
+    file: &[u8],
+    input: &[u8],
+    output: &[u8],
+    work: &mut [u8],
+    out: &mut [u8],
+) -> io::Result<bool>
     requires { 80 ≤ length file.now }
 {
     let x = number(file, 1) as u64;
     let y = number(file, 2) as u64;
     let got = called(number(file, 0), x, y, input, work, out);
-    let right = alike(got, expected(file)) && blank(work) && check::same(out, output);
-    judged(right, got)
+    let right = alike(&got, &expected(file)) && blank(work) && &*out == output;
+    judged(rt, right, got)
 }
 
 // A file that is no case, or one with longer areas than those here.
-fn unfit() -> bool {
-    judged(false, given(0, 0, 0))
+fn unfit(rt: &impl Print) -> io::Result<bool> {
+    judged(rt, false, given(0, 0, 0))
 }
 
-fn run(file: &[u8]) -> bool {
+fn run(rt: &impl Print, file: &[u8]) -> io::Result<bool> {
     if file.len() < 80 {
-        return unfit();
+        return unfit(rt);
     }
     let w = number(file, 3);
     let o = number(file, 4);
     let n = number(file, 9);
     if 65537 < w {
-        return unfit();
+        return unfit(rt);
     }
     if 4096 < o {
-        return unfit();
+        return unfit(rt);
     }
     if file.len() - 80 < n {
-        return unfit();
+        return unfit(rt);
     }
     let mut work = [7u8; 65537];
     let mut out = [7u8; 4096];
     let input = &file[80..80 + n];
     let output = &file[80 + n..];
-    tried(file, input, output, &mut work[0..w], &mut out[0..o])
+    tried(rt, file, input, output, &mut work[0..w], &mut out[0..o])
 }
 
-// Runs the case that argument i names.
-fn case(i: usize) -> bool {
-    let mut path = io::buffer();
-    let n = os::arg(i, &mut path);
-    let fd = os::open_read(&path[..n]);
-    if fd < 0 {
-        os::fail(&path[..n]);
-        return false;
+// The most bytes of a case's file that are looked at.
+const MOST_READ: u64 = 8192;
+
+// The first bytes of a file, or None where it cannot be opened, and then standard error has the reason.
+fn opened<R: Files + Eprint + Alloc>(rt: &R, name: &str) -> io::Result<Option<Vec<u8, R::A>>> {
+    match fs::open(rt, name) {
+        Ok(file) => {
+            let mut bytes = Vec::new(rt.alloc());
+            file.take(MOST_READ).read_to_end(&mut bytes)?;
+            Ok(Some(bytes))
+        }
+        Err(e) => {
+            eprintln!(rt; "{name}: {e}")?;
+            Ok(None)
+        }
     }
-    word(&path[..n]);
-    let mut file = [0u8; 8192];
-    let got = io::read_full(fd, &mut file);
-    libc::close(fd);
-    run(&file[..got])
+}
+
+// Runs the case in a file.
+fn case<R: Files + Print + Eprint + Alloc>(rt: &R, name: &str) -> io::Result<bool> {
+    match opened(rt, name)? {
+        Some(file) => {
+            word(rt, name)?;
+            run(rt, &file)
+        }
+        None => Ok(false),
+    }
 }
 
 // The coordinates of n holes, 32 to a row.
@@ -268,26 +289,27 @@ fn full(list: &[u8]) -> Told {
 }
 
 // "1,024 distinct holes pass, 1,025 give 3."
-fn most_holes(list: &[u8]) -> bool {
-    word(b"1024-holes");
+fn most_holes(rt: &impl Print, list: &[u8]) -> io::Result<bool> {
+    word(rt, "1024-holes")?;
     let got = full(first(list, 4096));
-    judged(got.number == 0 && got.first == 1024, got)
+    judged(rt, got.number == 0 && got.first == 1024, got)
 }
 
-fn too_many_holes(list: &[u8]) -> bool {
-    word(b"1025-holes");
+fn too_many_holes(rt: &impl Print, list: &[u8]) -> io::Result<bool> {
+    word(rt, "1025-holes")?;
     let got = full(first(list, 4100));
-    judged(got.number == 3 && got.first == 1025, got)
+    judged(rt, got.number == 3 && got.first == 1025, got)
 }
 
 // An input of more than 65,536 bytes is refused before all else.
-fn long_input() -> bool {
-    word(b"long-input");
+fn long_input(rt: &impl Print) -> io::Result<bool> {
+    word(rt, "long-input")?;
     let input = [0u8; 65537];
     let mut out = [7u8; 128];
     let got = printed(&input, &mut out);
     judged(
-        got.first == 17 && check::same(first(&out, 17), b"refused 17 65536\n"),
+        rt,
+        got.first == 17 && first(&out, 17) == b"refused 17 65536\n".as_slice(),
         got,
     )
 }
@@ -299,41 +321,38 @@ fn one(right: bool) -> u64
 }
 
 // How many of the sheets agree.
-fn sheets() -> u64
-    ensures { result ≤ 3 }
+fn sheets(rt: &impl Print) -> io::Result<u64>
+    ensures { IfOk result (λ right. right ≤ 3) }
 {
     let mut list = [0u8; 4100];
     let field: &mut [u8] = &mut list;
     lay_out(field, 1025);
-    let first = one(most_holes(field));
-    let second = one(too_many_holes(field));
-    first + second + one(long_input())
+    let first = one(most_holes(rt, field)?);
+    let second = one(too_many_holes(rt, field)?);
+    Ok(first + second + one(long_input(rt)?))
 }
 
-// How many of the cases agree.
-fn cases(n: usize) -> u64
-    requires { (1 ≤ n) × (n ≤ 1000) }
-    ensures { result < n }
+// How many of the cases agree. The program's own name is the first of the arguments.
+fn cases<R: Files + Print + Eprint + Alloc>(rt: &R, args: &[String]) -> io::Result<u64>
+    requires { (1 ≤ length args.now) × (length args.now ≤ 1000) }
+    ensures { IfOk result (λ right. right < length args.now) }
 {
     let mut right = 0;
-    for i in 1..n {
-        right += one(case(i));
+    for name in &args[1..] {
+        right += one(case(rt, name)?);
     }
-    right
+    Ok(right)
 }
 
-fn main() {
-    // The program's own name is the first of the arguments.
-    let n = os::arg_count();
+fn main(rt: HostRuntime) -> io::Result<()> {
+    let args: Vec<String> = env::args(&rt)?.collect(rt.alloc())?;
+    let n = args.len();
     if n < 1 {
-        return;
+        return Ok(());
     }
     if 1000 < n {
-        return;
+        return Ok(());
     }
-    let right = sheets() + cases(n);
-    io::print_decimal(STDOUT_FILENO, right);
-    word(b" of");
-    spaced(n as u64 + 2);
-    word(b" agree\n");
+    let right = sheets(&rt)? + cases(&rt, &args)?;
+    println!(rt; "{right} of {} agree", n + 2)
 }
