@@ -13,7 +13,7 @@ use std::rt::Files;
 use std::{env, fs, io};
 
 // An answer in numbers: 0 and what is given, or a refusal's number and its value.
-#[derive(Drop)]
+#[derive(Clone, Copy)]
 struct Told {
     number: u64,
     first: u64,
@@ -145,7 +145,7 @@ fn judged(rt: &impl Print, right: bool, got: Told) -> io::Result<bool> {
     Ok(false)
 }
 
-fn alike(x: &Told, y: &Told) -> bool {
+fn alike(x: Told, y: Told) -> bool {
     x.number == y.number && x.first == y.first && x.second == y.second && x.third == y.third
 }
 
@@ -193,7 +193,7 @@ fn tried(
     let x = number(file, 1) as u64;
     let y = number(file, 2) as u64;
     let got = called(number(file, 0), x, y, input, work, out);
-    let right = alike(&got, &expected(file)) && blank(work) && &*out == output;
+    let right = alike(got, expected(file)) && blank(work) && &*out == output;
     judged(rt, right, got)
 }
 
