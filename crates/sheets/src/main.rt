@@ -10,15 +10,43 @@ use paper::{Checked, Closest, Pitch, Refusal, Wrote};
 use record::Place;
 use std::io::Read;
 use std::rt::Files;
-use std::{env, fs, io};
+use std::{env, fmt, fs, io};
 
 // An answer in numbers: 0 and what is given, or a refusal's number and its value.
-#[derive(Clone, Copy)]
+#[derive(Clone, Copy, PartialEq, Eq)]
 struct Told {
     number: u64,
     first: u64,
     second: u64,
     third: u64,
+}
+
+impl fmt::Display for Told {
+    fn fmt<W: fmt::Write>(&self, f: &mut fmt::Formatter<W>) -> fmt::Result {
+        let Told {
+            number,
+            first,
+            second,
+            third,
+        } = *self;
+        write!(f, "{number} {first} {second} {third}")
+    }
+}
+
+// What a case or a sheet comes to: what is right is ok, and of anything else the answer is printed.
+#[derive(Clone, Copy)]
+enum Outcome {
+    Agrees,
+    Differs(Told),
+}
+
+impl fmt::Display for Outcome {
+    fn fmt<W: fmt::Write>(&self, f: &mut fmt::Formatter<W>) -> fmt::Result {
+        match self {
+            Outcome::Agrees => write!(f, "ok"),
+            Outcome::Differs(got) => write!(f, "differs: answer {got}"),
+        }
+    }
 }
 
 fn given(first: u64, second: u64, third: u64) -> Told {
@@ -122,31 +150,12 @@ fn called(call: usize, x: u64, y: u64, input: &[u8], work: &mut [u8], out: &mut 
     }
 }
 
-fn word(rt: &impl Print, text: &str) -> io::Result<()> {
-    rt.print(text)
-}
-
-fn spaced(rt: &impl Print, n: u64) -> io::Result<()> {
-    print!(rt; " {n}")
-}
-
-// Ends a line: what is right is ok, and of anything else the answer is printed.
-fn judged(rt: &impl Print, right: bool, got: Told) -> io::Result<bool> {
+fn judged(right: bool, got: Told) -> Outcome {
     if right {
-        word(rt, " ok\n")?;
-        return Ok(true);
+        Outcome::Agrees
+    } else {
+        Outcome::Differs(got)
     }
-    word(rt, " differs: answer")?;
-    spaced(rt, got.number)?;
-    spaced(rt, got.first)?;
-    spaced(rt, got.second)?;
-    spaced(rt, got.third)?;
-    word(rt, "\n")?;
-    Ok(false)
-}
-
-fn alike(x: Told, y: Told) -> bool {
-    x.number == y.number && x.first == y.first && x.second == y.second && x.third == y.third
 }
 
 // Whether an area is all zero.
@@ -180,49 +189,42 @@ fn expected(file: &[u8]) -> Told
 }
 
 // Makes a case's call, and compares the answer, the whole output, and the work area with zero.
-fn tried(
-    rt: &impl Print,
-    file: &[u8],
-    input: &[u8],
-    output: &[u8],
-    work: &mut [u8],
-    out: &mut [u8],
-) -> io::Result<bool>
+fn tried(file: &[u8], input: &[u8], output: &[u8], work: &mut [u8], out: &mut [u8]) -> Outcome
     requires { 80 ≤ length file.now }
 {
     let x = number(file, 1) as u64;
     let y = number(file, 2) as u64;
     let got = called(number(file, 0), x, y, input, work, out);
-    let right = alike(got, expected(file)) && blank(work) && &*out == output;
-    judged(rt, right, got)
+    let right = got == expected(file) && blank(work) && &*out == output;
+    judged(right, got)
 }
 
 // A file that is no case, or one with longer areas than those here.
-fn unfit(rt: &impl Print) -> io::Result<bool> {
-    judged(rt, false, given(0, 0, 0))
+fn unfit() -> Outcome {
+    judged(false, given(0, 0, 0))
 }
 
-fn run(rt: &impl Print, file: &[u8]) -> io::Result<bool> {
+fn run(file: &[u8]) -> Outcome {
     if file.len() < 80 {
-        return unfit(rt);
+        return unfit();
     }
     let w = number(file, 3);
     let o = number(file, 4);
     let n = number(file, 9);
     if 65537 < w {
-        return unfit(rt);
+        return unfit();
     }
     if 4096 < o {
-        return unfit(rt);
+        return unfit();
     }
     if file.len() - 80 < n {
-        return unfit(rt);
+        return unfit();
     }
     let mut work = [7u8; 65537];
     let mut out = [7u8; 4096];
     let input = &file[80..80 + n];
     let output = &file[80 + n..];
-    tried(rt, file, input, output, &mut work[0..w], &mut out[0..o])
+    tried(file, input, output, &mut work[0..w], &mut out[0..o])
 }
 
 // The most bytes of a case's file that are looked at.
@@ -240,17 +242,6 @@ fn opened<R: Files + Eprint + Alloc>(rt: &R, name: &str) -> io::Result<Option<Ve
             eprintln!(rt; "{name}: {e}")?;
             Ok(None)
         }
-    }
-}
-
-// Runs the case in a file.
-fn case<R: Files + Print + Eprint + Alloc>(rt: &R, name: &str) -> io::Result<bool> {
-    match opened(rt, name)? {
-        Some(file) => {
-            word(rt, name)?;
-            run(rt, &file)
-        }
-        None => Ok(false),
     }
 }
 
@@ -289,29 +280,33 @@ fn full(list: &[u8]) -> Told {
 }
 
 // "1,024 distinct holes pass, 1,025 give 3."
-fn most_holes(rt: &impl Print, list: &[u8]) -> io::Result<bool> {
-    word(rt, "1024-holes")?;
+fn most_holes(list: &[u8]) -> Outcome {
     let got = full(first(list, 4096));
-    judged(rt, got.number == 0 && got.first == 1024, got)
+    judged(got.number == 0 && got.first == 1024, got)
 }
 
-fn too_many_holes(rt: &impl Print, list: &[u8]) -> io::Result<bool> {
-    word(rt, "1025-holes")?;
+fn too_many_holes(list: &[u8]) -> Outcome {
     let got = full(first(list, 4100));
-    judged(rt, got.number == 3 && got.first == 1025, got)
+    judged(got.number == 3 && got.first == 1025, got)
 }
 
 // An input of more than 65,536 bytes is refused before all else.
-fn long_input(rt: &impl Print) -> io::Result<bool> {
-    word(rt, "long-input")?;
+fn long_input() -> Outcome {
     let input = [0u8; 65537];
     let mut out = [7u8; 128];
     let got = printed(&input, &mut out);
     judged(
-        rt,
         got.first == 17 && first(&out, 17) == b"refused 17 65536\n".as_slice(),
         got,
     )
+}
+
+// Prints the line of a case or a sheet, and gives how many agree of this one.
+fn shown(rt: &impl Print, name: &str, outcome: Outcome) -> io::Result<u64>
+    ensures { IfOk result (λ right. right ≤ 1) }
+{
+    println!(rt; "{name} {outcome}")?;
+    Ok(one(matches!(outcome, Outcome::Agrees)))
 }
 
 fn one(right: bool) -> u64
@@ -327,9 +322,19 @@ fn sheets(rt: &impl Print) -> io::Result<u64>
     let mut list = [0u8; 4100];
     let field: &mut [u8] = &mut list;
     lay_out(field, 1025);
-    let first = one(most_holes(rt, field)?);
-    let second = one(too_many_holes(rt, field)?);
-    Ok(first + second + one(long_input(rt)?))
+    let first = shown(rt, "1024-holes", most_holes(field))?;
+    let second = shown(rt, "1025-holes", too_many_holes(field))?;
+    Ok(first + second + shown(rt, "long-input", long_input())?)
+}
+
+// Runs the case in a file.
+fn case<R: Files + Print + Eprint + Alloc>(rt: &R, name: &str) -> io::Result<u64>
+    ensures { IfOk result (λ right. right ≤ 1) }
+{
+    match opened(rt, name)? {
+        Some(file) => shown(rt, name, run(&file)),
+        None => Ok(0),
+    }
 }
 
 // How many of the cases agree. The program's own name is the first of the arguments.
@@ -339,7 +344,7 @@ fn cases<R: Files + Print + Eprint + Alloc>(rt: &R, args: &[String]) -> io::Resu
 {
     let mut right = 0;
     for name in &args[1..] {
-        right += one(case(rt, name)?);
+        right += case(rt, name)?;
     }
     Ok(right)
 }

@@ -1,6 +1,5 @@
 -- What was written are the lines for what was read, and those are the lines for the whole input. Assumes nothing.
-use Rattle.std.proofs.Common.{rules, ◌≡◌, OnOk, IfSome, take, length, ℕ, List, []}
-use Rattle.verdict.proofs.Taken.{judged}
+use Rattle.verdict.proofs.Reading.{judged}
 use Rattle.verdict.proofs.judge.Goals as goal
 
 pub returns : goal.returns
