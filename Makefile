@@ -6,20 +6,26 @@ SHELL := bash
 
 RECORD := examples/p1.record
 
+# The static library that C and host/ link. `rt lib` proves it, as `rt run` proves the program, where nothing kept has it proved.
+LIBRARY := crates/press/out/libpress.a
+
 # The program, proved and linked, on a record.
 run:
-	rt check verdict
-	target/bin/verdict < "$(RECORD)"
+	(cd crates/verdict && rt run) < "$(RECORD)"
 
-# Every crate proved from nothing, every must-fail edit refused, the programs run; then the library and the program from Rust and from C. The
-# last line is the prover's, printed again where everything passed.
+# Every crate proved from nothing, every must-fail edit refused and none of them bad, the programs run; then the library and the program from
+# Rust and from C. The last line is the prover's, printed again where everything passed.
 test:
 	log=$$(mktemp)
 	trap 'rm -f "$$log"' EXIT
-	rt fmt --check
 	rt ci | tee "$$log"
-	rt staticlib press
-	$(CC) -std=c11 -Wall -Wextra -Werror -O2 -Iinclude examples/press.c target/staticlib/libpress.a -o target/press
+	if grep -Eq '^rt: ok;.*, [0-9]+ bad' "$$log"; then
+		echo 'a must-fail edit can no longer be applied' >&2
+		exit 1
+	fi
+	(cd crates/press && rt lib)
+	mkdir -p target
+	$(CC) -std=c11 -Wall -Wextra -Werror -O2 -Iinclude examples/press.c $(LIBRARY) -o target/press
 	target/press
 	cargo fmt --manifest-path host/Cargo.toml --check
 	cargo test --manifest-path host/Cargo.toml --quiet
@@ -27,5 +33,5 @@ test:
 
 # The library against the baseline of host/, as two tables in Markdown: times, and the instructions that valgrind counts.
 bench:
-	rt staticlib press
+	(cd crates/press && rt lib)
 	cargo run --manifest-path host/Cargo.toml --release --quiet --bin bench -- --instructions

@@ -21,7 +21,7 @@ fn controller() -> &'static Path {
             .args(["-std=c11", "-Wall", "-Wextra", "-Werror", "-O2", "-I"])
             .arg(host.join("../include"))
             .arg(host.join("controller.c"))
-            .arg(host.join("../target/staticlib/libpress.a"))
+            .arg(host.join("../crates/press/out/libpress.a"))
             .arg("-o")
             .arg(&program)
             .status();

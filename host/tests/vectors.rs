@@ -166,12 +166,12 @@ fn all_cases_through_the_baseline() {
 
 /// What the program verdict prints for an input.
 fn verdict(input: &[u8]) -> Vec<u8> {
-    let path = concat!(env!("CARGO_MANIFEST_DIR"), "/../target/bin/verdict");
+    let path = concat!(env!("CARGO_MANIFEST_DIR"), "/../crates/verdict/out/verdict");
     let mut child = Command::new(path)
         .stdin(Stdio::piped())
         .stdout(Stdio::piped())
         .spawn()
-        .expect("the program, which rt check verdict links");
+        .expect("the program, which rt ci builds and rt run in its folder");
     // An input that is too long is not read to its end.
     let _ = child.stdin.take().unwrap().write_all(input);
     let done = child.wait_with_output().unwrap();

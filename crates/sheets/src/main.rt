@@ -4,19 +4,49 @@
 // output that is expected.
 #![tactic(auto)]
 
-ghost use Rattle.std.specs.Prelude.{◌*◌, ◌<◌, ◌≤◌, length};
+ghost use Rattle.std.specs.Prelude.{◌*◌, ◌<◌, ◌≤◌, length, IfOk};
 
-use libc::STDOUT_FILENO;
 use paper::{Checked, Closest, Pitch, Refusal, Wrote};
 use record::Place;
+use std::io::Read;
+use std::rt::Files;
+use std::{env, fmt, fs, io};
 
 // An answer in numbers: 0 and what is given, or a refusal's number and its value.
-#[derive(Drop)]
+#[derive(Clone, Copy, PartialEq, Eq)]
 struct Told {
     number: u64,
     first: u64,
     second: u64,
     third: u64,
+}
+
+impl fmt::Display for Told {
+    fn fmt<W: fmt::Write>(&self, f: &mut fmt::Formatter<W>) -> fmt::Result {
+        let Told {
+            number,
+            first,
+            second,
+            third,
+        } = *self;
+        write!(f, "{number} {first} {second} {third}")
+    }
+}
+
+// What a case or a sheet comes to: what is right is ok, and of anything else the answer is printed.
+#[derive(Clone, Copy)]
+enum Outcome {
+    Agrees,
+    Differs(Told),
+}
+
+impl fmt::Display for Outcome {
+    fn fmt<W: fmt::Write>(&self, f: &mut fmt::Formatter<W>) -> fmt::Result {
+        match self {
+            Outcome::Agrees => write!(f, "ok"),
+            Outcome::Differs(got) => write!(f, "differs: answer {got}"),
+        }
+    }
 }
 
 fn given(first: u64, second: u64, third: u64) -> Told {
@@ -120,32 +150,12 @@ fn called(call: usize, x: u64, y: u64, input: &[u8], work: &mut [u8], out: &mut 
     }
 }
 
-fn word(text: &[u8]) {
-    io::write_all(STDOUT_FILENO, text);
-}
-
-fn spaced(n: u64) {
-    word(b" ");
-    io::print_decimal(STDOUT_FILENO, n);
-}
-
-// Ends a line: what is right is ok, and of anything else the answer is printed.
-fn judged(right: bool, got: Told) -> bool {
+fn judged(right: bool, got: Told) -> Outcome {
     if right {
-        word(b" ok\n");
-        return true;
+        Outcome::Agrees
+    } else {
+        Outcome::Differs(got)
     }
-    word(b" differs: answer");
-    spaced(got.number);
-    spaced(got.first);
-    spaced(got.second);
-    spaced(got.third);
-    word(b"\n");
-    false
-}
-
-fn alike(x: Told, y: Told) -> bool {
-    x.number == y.number && x.first == y.first && x.second == y.second && x.third == y.third
 }
 
 // Whether an area is all zero.
@@ -179,22 +189,22 @@ fn expected(file: &[u8]) -> Told
 }
 
 // Makes a case's call, and compares the answer, the whole output, and the work area with zero.
-fn tried(file: &[u8], input: &[u8], output: &[u8], work: &mut [u8], out: &mut [u8]) -> bool
+fn tried(file: &[u8], input: &[u8], output: &[u8], work: &mut [u8], out: &mut [u8]) -> Outcome
     requires { 80 ≤ length file.now }
 {
     let x = number(file, 1) as u64;
     let y = number(file, 2) as u64;
     let got = called(number(file, 0), x, y, input, work, out);
-    let right = alike(got, expected(file)) && blank(work) && check::same(out, output);
+    let right = got == expected(file) && blank(work) && &*out == output;
     judged(right, got)
 }
 
 // A file that is no case, or one with longer areas than those here.
-fn unfit() -> bool {
+fn unfit() -> Outcome {
     judged(false, given(0, 0, 0))
 }
 
-fn run(file: &[u8]) -> bool {
+fn run(file: &[u8]) -> Outcome {
     if file.len() < 80 {
         return unfit();
     }
@@ -217,20 +227,22 @@ fn run(file: &[u8]) -> bool {
     tried(file, input, output, &mut work[0..w], &mut out[0..o])
 }
 
-// Runs the case that argument i names.
-fn case(i: usize) -> bool {
-    let mut path = io::buffer();
-    let n = os::arg(i, &mut path);
-    let fd = os::open_read(&path[..n]);
-    if fd < 0 {
-        os::fail(&path[..n]);
-        return false;
+// The most bytes of a case's file that are looked at.
+const MOST_READ: u64 = 8192;
+
+// The first bytes of a file, or None where it cannot be opened, and then standard error has the reason.
+fn opened<R: Files + Eprint + Alloc>(rt: &R, name: &str) -> io::Result<Option<Vec<u8, R::A>>> {
+    match fs::open(rt, name) {
+        Ok(file) => {
+            let mut bytes = Vec::new(rt.alloc());
+            file.take(MOST_READ).read_to_end(&mut bytes)?;
+            Ok(Some(bytes))
+        }
+        Err(e) => {
+            eprintln!(rt; "{name}: {e}")?;
+            Ok(None)
+        }
     }
-    word(&path[..n]);
-    let mut file = [0u8; 8192];
-    let got = io::read_full(fd, &mut file);
-    libc::close(fd);
-    run(&file[..got])
 }
 
 // The coordinates of n holes, 32 to a row.
@@ -268,28 +280,33 @@ fn full(list: &[u8]) -> Told {
 }
 
 // "1,024 distinct holes pass, 1,025 give 3."
-fn most_holes(list: &[u8]) -> bool {
-    word(b"1024-holes");
+fn most_holes(list: &[u8]) -> Outcome {
     let got = full(first(list, 4096));
     judged(got.number == 0 && got.first == 1024, got)
 }
 
-fn too_many_holes(list: &[u8]) -> bool {
-    word(b"1025-holes");
+fn too_many_holes(list: &[u8]) -> Outcome {
     let got = full(first(list, 4100));
     judged(got.number == 3 && got.first == 1025, got)
 }
 
 // An input of more than 65,536 bytes is refused before all else.
-fn long_input() -> bool {
-    word(b"long-input");
+fn long_input() -> Outcome {
     let input = [0u8; 65537];
     let mut out = [7u8; 128];
     let got = printed(&input, &mut out);
     judged(
-        got.first == 17 && check::same(first(&out, 17), b"refused 17 65536\n"),
+        got.first == 17 && first(&out, 17) == b"refused 17 65536\n".as_slice(),
         got,
     )
+}
+
+// Prints the line of a case or a sheet, and gives how many agree of this one.
+fn shown(rt: &impl Print, name: &str, outcome: Outcome) -> io::Result<u64>
+    ensures { IfOk result (λ right. right ≤ 1) }
+{
+    println!(rt; "{name} {outcome}")?;
+    Ok(one(matches!(outcome, Outcome::Agrees)))
 }
 
 fn one(right: bool) -> u64
@@ -299,41 +316,48 @@ fn one(right: bool) -> u64
 }
 
 // How many of the sheets agree.
-fn sheets() -> u64
-    ensures { result ≤ 3 }
+fn sheets(rt: &impl Print) -> io::Result<u64>
+    ensures { IfOk result (λ right. right ≤ 3) }
 {
     let mut list = [0u8; 4100];
     let field: &mut [u8] = &mut list;
     lay_out(field, 1025);
-    let first = one(most_holes(field));
-    let second = one(too_many_holes(field));
-    first + second + one(long_input())
+    let first = shown(rt, "1024-holes", most_holes(field))?;
+    let second = shown(rt, "1025-holes", too_many_holes(field))?;
+    Ok(first + second + shown(rt, "long-input", long_input())?)
 }
 
-// How many of the cases agree.
-fn cases(n: usize) -> u64
-    requires { (1 ≤ n) × (n ≤ 1000) }
-    ensures { result < n }
+// Runs the case in a file.
+fn case<R: Files + Print + Eprint + Alloc>(rt: &R, name: &str) -> io::Result<u64>
+    ensures { IfOk result (λ right. right ≤ 1) }
+{
+    match opened(rt, name)? {
+        Some(file) => shown(rt, name, run(&file)),
+        None => Ok(0),
+    }
+}
+
+// How many of the cases agree. The program's own name is the first of the arguments.
+fn cases<R: Files + Print + Eprint + Alloc>(rt: &R, args: &[String]) -> io::Result<u64>
+    requires { (1 ≤ length args.now) × (length args.now ≤ 1000) }
+    ensures { IfOk result (λ right. right < length args.now) }
 {
     let mut right = 0;
-    for i in 1..n {
-        right += one(case(i));
+    for name in &args[1..] {
+        right += case(rt, name)?;
     }
-    right
+    Ok(right)
 }
 
-fn main() {
-    // The program's own name is the first of the arguments.
-    let n = os::arg_count();
+fn main(rt: HostRuntime) -> io::Result<()> {
+    let args: Vec<String> = env::args(&rt)?.collect(rt.alloc())?;
+    let n = args.len();
     if n < 1 {
-        return;
+        return Ok(());
     }
     if 1000 < n {
-        return;
+        return Ok(());
     }
-    let right = sheets() + cases(n);
-    io::print_decimal(STDOUT_FILENO, right);
-    word(b" of");
-    spaced(n as u64 + 2);
-    word(b" agree\n");
+    let right = sheets(&rt)? + cases(&rt, &args)?;
+    println!(rt; "{right} of {} agree", n + 2)
 }

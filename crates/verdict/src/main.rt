@@ -1,15 +1,33 @@
-// Reads a record from standard input and prints document 01's verdict on it. `lines::report` is proved to give what is to be printed for the bytes
-// that were read. Trusted is that the C library's read and write move these bytes: no contract can say so.
+// Reads a record from standard input and prints document 01's verdict on it. `judge` is proved to write what is to be printed for all bytes of its
+// input. Trusted is that the system's read and write move these bytes: no contract can say so.
 #![tactic(auto)]
 
-use libc::{STDIN_FILENO, STDOUT_FILENO};
+ghost use Rattle.std.specs.Prelude.{OnOk, IfSome};
+ghost use Rattle.std.specs.Io.KnownBytes.{Appends};
+ghost use Rattle.paper.specs.Program.{printed};
 
-fn main() {
-    // One byte more than a record may have, so that a longer input is seen.
-    let mut input = [0u8; 65537];
-    let n = io::read_full(STDIN_FILENO, &mut input);
+use std::alloc::Global;
+use std::io;
+use std::io::{Read, Write};
+
+// One byte more than a record may have, so that a longer input is seen.
+const MOST_READ: u64 = 65537;
+
+// Reads an input, but of a long one only as much as shows that it is too long, and writes the verdict on it.
+fn judge<R: Read, W: Write>(alloc: Global, input: R, output: &mut W) -> io::Result<()>
+where
+    R: Drop,
+    ensures { OnOk result (IfSome (R.remaining input)
+        (λ bytes. Appends (W.contents output.old) (W.contents output.new) (printed bytes))) }
+{
+    let mut record = Vec::new(alloc);
+    input.take(MOST_READ).read_to_end(&mut record)?;
     let mut work = [0u8; 65536];
-    let mut out = [0u8; 128];
-    let m = lines::report(&input[..n], &mut work, &mut out);
-    io::write_all(STDOUT_FILENO, &out[0..m]);
+    let mut lines = [0u8; 128];
+    let length = lines::report(&record, &mut work, &mut lines);
+    output.write_all(&lines[..length])
+}
+
+fn main(rt: HostRuntime) -> io::Result<()> {
+    judge(rt.alloc(), rt.stdin(), &mut rt.stdout())
 }

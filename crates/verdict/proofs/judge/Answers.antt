@@ -1,0 +1,8 @@
+-- What was written are the lines for what was read, and those are the lines for the whole input. Assumes nothing.
+use Rattle.verdict.proofs.Reading.{judged}
+use Rattle.verdict.proofs.judge.Goals as goal
+
+pub returns : goal.returns
+returns g c =
+    judged _ _ _ _ _ _ (rw (c.take.ensures.limit, c.take.ensures.inner, c.new-record.ensures.items) at c.in_ok-read_to_end.ensures.bytes)
+    (rw c.deref.ensures.value at c.report-length.ensures.holds) c.write_all.ensures.bytes
