@@ -1,14 +1,17 @@
 // The lines that the program prints, as bytes: document 01's "Program". `paper` says what they are; here they are written into an output,
-// for what was found of a record, and for the bytes of an input.
+// for what was found of a record, and for the bytes of an input. An input is read into lent memory, as far as that reaches.
 #![tactic(auto)]
 
-ghost use Rattle.std.specs.Prelude.{◌++◌, ◌+◌, ◌≤◌, length};
+ghost use Rattle.std.specs.Prelude.{◌++◌, ◌+◌, ◌≤◌, length, IfOk};
 ghost use Rattle.paper.specs.Program.{digits, spaced, line_end, closest_line, lines};
 ghost use Rattle.paper.specs.Refusals.{given};
 ghost use Rattle.paper.specs.Answers.{refuses, checked as told, found};
 ghost use Rattle.lines.specs.Printing.{Put, refusal_line, count_lines, Holds, Reports};
+ghost use Rattle.lines.specs.Reading.{Filled};
 
 use paper::{Checked, Closest, Refusal};
+use std::io;
+use std::io::Read;
 
 // Writes the digits of x from `at` on. There are at most 20, so it calls itself at most 19 times. Each put_ gives the place after what it wrote.
 fn put_digits(out: &mut [u8], at: usize, x: u64) -> usize
@@ -151,4 +154,19 @@ pub fn report(bytes: &[u8], work: &mut [u8; 65536], out: &mut [u8; 128]) -> usiz
     let checked = seen.checked;
     let closest = seen.closest;
     write_lines(out, checked, closest)
+}
+
+// Reads the start of an input into a buffer, as much as the input has and the buffer holds, and gives how many bytes that is.
+pub fn read_start<R: Read>(input: &mut R, buffer: &mut [u8]) -> io::Result<usize>
+    ensures { IfOk result (λ n. Filled (R.remaining input.old) buffer.new n) }
+{
+    let mut n = 0;
+    while n < buffer.len() {
+        let got = input.read(&mut buffer[n..])?;
+        if got == 0 {
+            break;
+        }
+        n += got;
+    }
+    Ok(n)
 }

@@ -8,7 +8,6 @@ ghost use Rattle.std.specs.Prelude.{◌*◌, ◌<◌, ◌≤◌, length, IfOk};
 
 use paper::{Checked, Closest, Pitch, Refusal, Wrote};
 use record::Place;
-use std::io::Read;
 use std::rt::Files;
 use std::{env, fmt, fs, io};
 
@@ -227,24 +226,6 @@ fn run(file: &[u8]) -> Outcome {
     tried(file, input, output, &mut work[0..w], &mut out[0..o])
 }
 
-// The most bytes of a case's file that are looked at.
-const MOST_READ: u64 = 8192;
-
-// The first bytes of a file, or None where it cannot be opened, and then standard error has the reason.
-fn opened<R: Files + Eprint + Alloc>(rt: &R, name: &str) -> io::Result<Option<Vec<u8, R::A>>> {
-    match fs::open(rt, name) {
-        Ok(file) => {
-            let mut bytes = Vec::new(rt.alloc());
-            file.take(MOST_READ).read_to_end(&mut bytes)?;
-            Ok(Some(bytes))
-        }
-        Err(e) => {
-            eprintln!(rt; "{name}: {e}")?;
-            Ok(None)
-        }
-    }
-}
-
 // The coordinates of n holes, 32 to a row.
 fn lay_out(list: &mut [u8], n: usize)
     requires n_bound { n ≤ 2048 }
@@ -327,18 +308,26 @@ fn sheets(rt: &impl Print) -> io::Result<u64>
     Ok(first + second + shown(rt, "long-input", long_input())?)
 }
 
-// Runs the case in a file.
-fn case<R: Files + Print + Eprint + Alloc>(rt: &R, name: &str) -> io::Result<u64>
+// Runs the case in a file, of which at most 8,192 bytes are looked at. Of one that cannot be opened standard error has the reason.
+fn case<R: Files + Print + Eprint>(rt: &R, name: &str) -> io::Result<u64>
     ensures { IfOk result (λ right. right ≤ 1) }
 {
-    match opened(rt, name)? {
-        Some(file) => shown(rt, name, run(&file)),
-        None => Ok(0),
+    match fs::open(rt, name) {
+        Ok(file) => {
+            let mut file = file;
+            let mut bytes = [0u8; 8192];
+            let read = lines::read_start(&mut file, &mut bytes)?;
+            shown(rt, name, run(&bytes[..read]))
+        }
+        Err(e) => {
+            eprintln!(rt; "{name}: {e}")?;
+            Ok(0)
+        }
     }
 }
 
 // How many of the cases agree. The program's own name is the first of the arguments.
-fn cases<R: Files + Print + Eprint + Alloc>(rt: &R, args: &[String]) -> io::Result<u64>
+fn cases<R: Files + Print + Eprint>(rt: &R, args: &[String]) -> io::Result<u64>
     requires { (1 ≤ length args.now) × (length args.now ≤ 1000) }
     ensures { IfOk result (λ right. right < length args.now) }
 {

@@ -13,6 +13,7 @@ use Rattle.paper.specs.declared.Refusal.TheVariants as R
 use Rattle.paper.proofs.Tables.{stop}
 use Rattle.std.specs.Io.KnownBytes.{Appends}
 use Rattle.lines.specs.Printing.{Holds}
+use Rattle.lines.specs.Reading.{Filled}
 
 -- the line of a refused record says nothing of a closest pair
 long_printed : (bs : List ℕ) → 65_536 < length bs → printed bs ≡ lines (refuses R.Long) (refuses R.Long)
@@ -32,10 +33,12 @@ printed_cut bs = ⊎_elim (λ l. ap printed (take_all 65_537 bs (omega arith))) 
 pub holds_start : {bs out : List ℕ} {r : ℕ} → Holds bs out r → take r out ≡ bs
 holds_start {bs} h = rw (h.is, h.output) (take-append_seam bs (replicate (128 - length bs) 0))
 
--- the input of which as much was read as is wanted, the lines for what was read in the output, and what the output's writer then holds
-pub judged : {E : Type 0} (input before after : Option (List ℕ)) (read out : List ℕ) {r : ℕ} (w : Result (Unit {0}) E)
-    → IfSome (option_map (take 65_537) input) (λ bs. read ≡ bs) → Holds (printed read) out r → OnOk w (Appends before after (take r out))
+-- the input, of which as much was read as is wanted, the lines for what was read in the output, and what the output's writer then holds
+pub judged : {E : Type 0} (input before after : Option (List ℕ)) (buffer out : List ℕ) {n r : ℕ} (w : Result (Unit {0}) E)
+    → Filled input buffer n → length buffer ≡ 65_537 → Holds (printed (take n buffer)) out r → OnOk w (Appends before after (take r out))
     → OnOk w (IfSome input (λ bs. Appends before after (printed bs)))
-judged input before after read out (Err x) e h w = tt
-judged None before after read out (Ok x) e h w = tt
-judged (Some bs) before after read out (Ok x) e h w = rw (← printed_cut bs, ← e, ← holds_start h) w
+judged input before after buffer out (Err x) f l h w = tt
+judged None before after buffer out (Ok x) f l h w = tt
+judged (Some bs) before after buffer out (Ok x) f l h w =
+    let e : take 65_537 bs ≡ take _ buffer = sym (rw l at f.start) in
+    rw (← printed_cut bs, e, ← holds_start h) w

@@ -4,5 +4,4 @@ use Rattle.verdict.proofs.judge.Goals as goal
 
 pub returns : goal.returns
 returns g c =
-    judged _ _ _ _ _ _ (rw (c.take.ensures.limit, c.take.ensures.inner, c.new-record.ensures.items) at c.in_ok-read_to_end.ensures.bytes)
-    (rw c.deref.ensures.value at c.report-length.ensures.holds) c.write_all.ensures.bytes
+    judged _ _ _ _ _ _ c.in_ok-read.ensures c.read_start.auto.buffer c.report-length.ensures.holds c.write_all.ensures.bytes
