@@ -1,5 +1,5 @@
 -- An input is read at most one byte past the longest record: what is printed for those bytes is what is printed for all of them. Assumes nothing.
-use Rattle.std.proofs.Common.{◌≡◌, ◌≤◌, ◌<◌, ◌-◌, ℕ, ⊎_elim, List, [], length, take, replicate, arith, ap, sym, ◌∙◌, Option, None, Some, Result, Ok, Err, OnOk, option_map, IfSome}
+use Rattle.std.proofs.Common.{◌≡◌, ◌≤◌, ◌<◌, ◌-◌, ℕ, ⊎_elim, List, [], length, take, replicate, arith, ap, sym, ◌∙◌, Option, None, Some, Result, Ok, Err, OnOk, IfSome}
 use Rattle.std.proofs.lemmas.List.{take_all, length-take-le}
 use Rattle.std.proofs.lemmas.Bool.{cases_lt}
 use Rattle.std.proofs.Math.Seq.{take-append_seam}

@@ -1,10 +1,9 @@
 -- A read gives the next bytes of the input, and they come to stand behind those before. One that gives none is at the end. Assumes nothing.
-use Rattle.std.proofs.Common.{◌≡◌, ◌+◌, ◌≤◌, ◌<◌, ◌-◌, ◌∙◌, ℕ, List, [], ◌++◌, length, take, Option, None, Some, IfSome, arith, rules, append_assoc, length-append, sym, ap}
-use Rattle.std.proofs.lemmas.List.{take-append-le, length-take-le, take_all, append-nil}
-use Rattle.std.proofs.Math.Seq.{take-append-add, take-append_seam}
-use Rattle.std.specs.Io.KnownBytes.{Consumes, IsAtEnd}
+use Rattle.std.proofs.Common.{◌≡◌, ◌+◌, ◌≤◌, ◌-◌, ◌∙◌, ℕ, List, ◌++◌, length, take, Option, None, Some, arith, append_assoc, length-append, sym, ap}
+use Rattle.std.proofs.lemmas.List.{take-append-le, length-take-le}
+use Rattle.std.proofs.Math.Seq.{take-append-add}
+use Rattle.std.specs.Io.KnownBytes.{Consumes}
 use borrow.Rule.Slice.PartMut.{put_mid, post_of}
-use Rattle.lines.specs.Reading.{Filled}
 use Rattle.lines.proofs.read_start.Goals as goal
 
 -- the bytes before n and the bytes behind them
@@ -12,7 +11,7 @@ taken : (n got k : ℕ) (xs ys : List ℕ) → n ≤ length xs → got ≤ lengt
 taken n got k xs ys a b =
     let l : length (take n xs) ≡ n = length-take-le n xs a in
     let e : take (length (take n xs) + got) (put_mid n k xs ys) ≡ take n xs ++ take got (ys ++ post_of n k xs) =
-        take-append-add (take n xs) (ys ++ post_of n k xs) got in
+    take-append-add (take n xs) (ys ++ post_of n k xs) got in
     rw l at e ∙ ap (λ (zs : List ℕ). take n xs ++ zs) (take-append-le got ys (post_of n k xs) b)
 
 room : (n got k : ℕ) (xs ys : List ℕ) → n ≤ length xs → got ≤ length ys → n + got ≤ length (put_mid n k xs ys)
