@@ -79,7 +79,7 @@ TestsPitch bytes p r work work' = Answered (pitched r) (pitch bytes p (length wo
 abbrev pub WritesLinks : List ℕ → Wrote → List ℕ → List ℕ → List ℕ → List ℕ → Type 0
 WritesLinks bytes r work work' out out' = Finished (wrote r) (links bytes (length work) (length out)) work work' out out'
 
--- a section: `part` is holes-part, nodes-part or pairs-part
+-- a section: `part` is holes_part, nodes_part or pairs_part
 pub record HandsBack (part : List ℕ → Part) (bytes r : Bor (List ℕ)) (work work' : List ℕ) : Type 0 where
   pub section : PartAt bytes r (section part bytes.now (length work))
   pub wiped : work' ≡ replicate (length work) 0

@@ -48,7 +48,7 @@ pub record Tells (asked : Numbers) (r : said.Answer) (work work' : List ℕ) : T
   pub says : Says asked r
   pub wiped : work' ≡ replicate (length work) 0
 
--- a call that answers with a section: `part` is holes-part, nodes-part or pairs-part
+-- a call that answers with a section: `part` is holes_part, nodes_part or pairs_part
 pub record HandsOver (part : List ℕ → Part) (bytes : List ℕ) (r : handed.Part) (work work' : List ℕ) : Type 0 where
   pub start : r.start ≡ (section part bytes (length work)).start
   pub size : r.length ≡ (section part bytes (length work)).size

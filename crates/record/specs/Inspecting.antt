@@ -72,7 +72,7 @@ abbrev pub TakeSays : List ℕ → List ℕ → List ℕ → Inspected → Type 
 TakeSays r old new (Fine p) = Taking r old new p
 TakeSays r old new (Refused x) = Declining r old new x
 
--- the place of a section, inside the record: `part` is holes-part, nodes-part or pairs-part
+-- the place of a section, inside the record: `part` is holes_part, nodes_part or pairs_part
 pub record Located (part : List ℕ → Part) (r old new : List ℕ) (p : Place) : Type 0 where
   pub start_is : p.start ≡ (section part r (length old)).start
   pub size_is : p.size ≡ (section part r (length old)).size
