@@ -13,8 +13,8 @@ LIBRARY := crates/press/out/libpress.a
 run:
 	(cd crates/verdict && rt run) < "$(RECORD)"
 
-# Every crate proved from nothing, every must-fail edit refused and none of them bad, the programs run; then the library and the program from
-# Rust and from C. The last line is the prover's, printed again where everything passed.
+# Every crate proved, from nothing where this machine has not kept the proof of the same files, every must-fail edit refused and none of them
+# bad, the programs run; then the library and the program from Rust and from C. The last line is the prover's, printed again where everything passed.
 test:
 	log=$$(mktemp)
 	trap 'rm -f "$$log"' EXIT

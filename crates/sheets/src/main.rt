@@ -8,8 +8,9 @@ ghost use Rattle.std.specs.Prelude.{◌*◌, ◌<◌, ◌≤◌, length, IfOk};
 
 use paper::{Checked, Closest, Pitch, Refusal, Wrote};
 use record::Place;
-use std::rt::Files;
-use std::{env, fmt, fs, io};
+use std::env::FillError;
+use std::rt::{Env, Files};
+use std::{fmt, fs, io};
 
 // An answer in numbers: 0 and what is given, or a refusal's number and its value.
 #[derive(Clone, Copy, PartialEq, Eq)]
@@ -309,7 +310,7 @@ fn sheets(rt: &impl Print) -> io::Result<u64>
 }
 
 // Runs the case in a file, of which at most 8,192 bytes are looked at. Of one that cannot be opened standard error has the reason.
-fn case<R: Files + Print + Eprint>(rt: &R, name: &str) -> io::Result<u64>
+fn filed<R: Files + Print + Eprint>(rt: &R, name: &str) -> io::Result<u64>
     ensures { IfOk result (λ right. right ≤ 1) }
 {
     match fs::open(rt, name) {
@@ -326,27 +327,53 @@ fn case<R: Files + Print + Eprint>(rt: &R, name: &str) -> io::Result<u64>
     }
 }
 
+// Runs the case that argument i names. A name that no file can have here is none that agrees. An error is one of the streams or of a file.
+fn case<R: Env + Files + Print + Eprint>(rt: &R, i: usize) -> io::Result<u64>
+    ensures { IfOk result (λ right. right ≤ 1) }
+{
+    let mut path = [0u8; 4096];
+    if let Ok(n) = rt.arg(i, &mut path) {
+        if let Ok(name) = str::from_utf8(&path[..n]) {
+            return filed(rt, name);
+        }
+    }
+    eprintln!(rt; "argument {i} names no file")?;
+    Ok(0)
+}
+
 // How many of the cases agree. The program's own name is the first of the arguments.
-fn cases<R: Files + Print + Eprint>(rt: &R, args: &[String]) -> io::Result<u64>
-    requires { (1 ≤ length args.now) × (length args.now ≤ 1000) }
-    ensures { IfOk result (λ right. right < length args.now) }
+fn cases<R: Env + Files + Print + Eprint>(rt: &R, n: usize) -> io::Result<u64>
+    requires { (1 ≤ n) × (n ≤ 1000) }
+    ensures { IfOk result (λ right. right < n) }
 {
     let mut right = 0;
-    for name in &args[1..] {
-        right += case(rt, name)?;
+    for i in 1..n {
+        right += case(rt, i)?;
     }
     Ok(right)
 }
 
+// How many arguments there are; more than 1,000 are not counted further.
+fn argument_count(rt: &impl Env) -> usize
+    ensures { result ≤ 1001 }
+{
+    let mut path = [0u8; 4096];
+    for i in 0..1001 {
+        if let Err(FillError::NotPresent) = rt.arg(i, &mut path) {
+            return i;
+        }
+    }
+    1001
+}
+
 fn main(rt: HostRuntime) -> io::Result<()> {
-    let args: Vec<String> = env::args(&rt)?.collect(rt.alloc())?;
-    let n = args.len();
+    let n = argument_count(&rt);
     if n < 1 {
         return Ok(());
     }
     if 1000 < n {
         return Ok(());
     }
-    let right = sheets(&rt)? + cases(&rt, &args)?;
+    let right = sheets(&rt)? + cases(&rt, n)?;
     println!(rt; "{right} of {} agree", n + 2)
 }

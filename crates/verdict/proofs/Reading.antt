@@ -20,14 +20,14 @@ long_printed : (bs : List ℕ) → 65_536 < length bs → printed bs ≡ lines (
 unfolding printed lines
 long_printed bs l = ap (λ (a : Answer (ℕ × ℕ)). lines a (closest bs least_work)) (stop (check bs least_work) (lt-ltb 65_536 (length bs) l) R.Long [])
 
--- a longer input is refused whatever it holds
-cut_long : (bs : List ℕ) → 65_537 ≤ length bs → printed (take 65_537 bs) ≡ printed bs
-cut_long bs l =
-    let t : length (take 65_537 bs) ≡ 65_537 = length-take-le 65_537 bs l in
-    long_printed (take 65_537 bs) (omega arith) ∙ sym (long_printed bs (omega arith))
+-- a longer input is refused whatever it holds, and so is as much of it as is over the most
+cut_long : (m : ℕ) (bs : List ℕ) → 65_536 < m → m ≤ length bs → printed (take m bs) ≡ printed bs
+cut_long m bs g l =
+    let t : length (take m bs) ≡ m = length-take-le m bs l in
+    long_printed (take m bs) (omega arith) ∙ sym (long_printed bs (omega arith))
 
-pub printed_cut : (bs : List ℕ) → printed (take 65_537 bs) ≡ printed bs
-printed_cut bs = ⊎_elim (λ l. ap printed (take_all 65_537 bs (omega arith))) (λ l. cut_long bs l) (cases_lt (length bs) 65_537)
+pub printed_cut : (m : ℕ) (bs : List ℕ) → 65_536 < m → printed (take m bs) ≡ printed bs
+printed_cut m bs g = ⊎_elim (λ l. ap printed (take_all m bs (omega arith))) (λ l. cut_long m bs g l) (cases_lt (length bs) m)
 
 -- what stands at the start of the output
 pub holds_start : {bs out : List ℕ} {r : ℕ} → Holds bs out r → take r out ≡ bs
@@ -35,10 +35,9 @@ holds_start {bs} h = rw (h.is, h.output) (take-append_seam bs (replicate (128 - 
 
 -- the input, of which as much was read as is wanted, the lines for what was read in the output, and what the output's writer then holds
 pub judged : {E : Type 0} (input before after : Option (List ℕ)) (buffer out : List ℕ) {n r : ℕ} (w : Result (Unit {0}) E)
-    → Filled input buffer n → length buffer ≡ 65_537 → Holds (printed (take n buffer)) out r → OnOk w (Appends before after (take r out))
+    → Filled input buffer n → 65_536 < length buffer → Holds (printed (take n buffer)) out r → OnOk w (Appends before after (take r out))
     → OnOk w (IfSome input (λ bs. Appends before after (printed bs)))
 judged input before after buffer out (Err x) f l h w = tt
 judged None before after buffer out (Ok x) f l h w = tt
 judged (Some bs) before after buffer out (Ok x) f l h w =
-    let e : take 65_537 bs ≡ take _ buffer = sym (rw l at f.start) in
-    rw (← printed_cut bs, e, ← holds_start h) w
+    rw (← printed_cut (length buffer) bs l, ← f.start, ← holds_start h) w
