@@ -116,9 +116,7 @@ pub cell-r-requires : goal.cell-r-requires
 cell-r-requires c = search all
 
 pub cell-requires-in-loop-j : goal.cell-requires-in-loop-j
-cell-requires-in-loop-j c =
-    let l = c in
-    rank l.row.ensures.row l.loop-j-test.true c.cell-r.ensures
+cell-requires-in-loop-j c = rank c.row.ensures.row c.loop-j-test.true c.cell-r.ensures
 
 pub loop-j-preserved : goal.loop-j-preserved
 loop-j-preserved c =
@@ -127,13 +125,11 @@ loop-j-preserved c =
 
 pub search-preserved : goal.search-preserved
 search-preserved c =
-    let r = c in
-    let s = r in
-    let k = s.search.invariant in (
+    let k = c.search.invariant in (
       search rules,
       search rules,
-      kept_row k.2 r.row.ensures,
-      below_turn s.requires.ready k.2 k.3 r.row.ensures c.loop-j.invariant.3 c.loop-j-test.false,
+      kept_row k.2 c.row.ensures,
+      below_turn c.requires.ready k.2 k.3 c.row.ensures c.loop-j.invariant.3 c.loop-j-test.false,
     )
 
 pub returns-after-search : goal.returns-after-search

@@ -74,10 +74,7 @@ pub mark_spans-requires : goal.mark_spans-requires
 mark_spans-requires c = search all
 
 pub mark_spans-requires-2 : goal.mark_spans-requires-2
-mark_spans-requires-2 c =
-    let s = c in
-    let t = s in
-    second-in t.requires t.get16-p.ensures s.get16-q.ensures s.mark_spans.ensures
+mark_spans-requires-2 c = second-in c.requires c.get16-p.ensures c.get16-q.ensures c.mark_spans.ensures
 
 pub returns : goal.returns
 returns c = search all

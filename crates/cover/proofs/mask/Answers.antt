@@ -2,7 +2,6 @@
 use mathlib.Core.Path.{◌≡◌}
 use Prim.Native.Nat.{ℕ, ◌≤◌, ◌-◌, ◌*◌, ◌%◌, ◌^◌}
 use native.Mathlib.Omega.{arith}
-use borrow.Author.Rules.{rules}
 use lib.Pow.{pow_mono, shl_exact}
 use Rattle.cover.proofs.mask.Goals as goal
 
@@ -15,8 +14,6 @@ module _ (lo hi : ℕ) (l : lo ≤ hi) (h : hi ≤ 16) where
 
   is_mask : 1 * 2 ^ hi % 2 ^ 64 - 1 * 2 ^ lo % 2 ^ 64 ≡ 2 ^ hi - 2 ^ lo
   is_mask = rw (power lo (omega arith), power hi h)
-
-ruleset all = (ordered, is_mask, rules)
 
 pub overflow_sub-result : goal.overflow_sub-result
 overflow_sub-result c = ordered c.args.lo c.args.hi c.requires.0 c.requires.1

@@ -25,12 +25,10 @@ push-requires c = search all
 
 pub loop-i-preserved : goal.loop-i-preserved
 loop-i-preserved c =
-    let told = c in
-    let turn = told in
-    let inv = turn.loop-i.invariant in (
+    let inv = c.loop-i.invariant in (
       search rules,
-      none_before_more _ _ _ inv.1 turn.loop-i-test.true told.is_repeat.ensures told.if-is_repeat.false,
-      chained_more (search rules) turn.loop-i-test.true inv.2 told.bucket-b.ensures c.push.ensures,
+      none_before_more _ _ _ inv.1 c.loop-i-test.true c.is_repeat.ensures c.if-is_repeat.false,
+      chained_more (search rules) c.loop-i-test.true inv.2 c.bucket-b.ensures c.push.ensures,
     )
 
 pub returns : goal.returns

@@ -1,9 +1,6 @@
 -- The pair, or why there is none. Assumes nothing.
-use borrow.Author.Rules.{rules}
 use Rattle.lines.proofs.Putting.{is_pair, is_none}
 use Rattle.lines.proofs.put_closest.Goals as goal
-
-ruleset all = (rules)
 
 pub returns-in-Holes : goal.returns-in-Holes
 returns-in-Holes c = search is_pair

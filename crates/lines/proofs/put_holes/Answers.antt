@@ -1,10 +1,7 @@
 -- Three pieces, each behind the one before it. Assumes nothing.
-use borrow.Author.Rules.{rules}
 use Rattle.paper.specs.Program.{text}
 use Rattle.lines.proofs.Putting.{holes_done}
 use Rattle.lines.proofs.put_holes.Goals as goal
-
-ruleset all = (rules)
 
 pub returns : goal.returns
 unfolding text

@@ -1,9 +1,6 @@
 -- One line for a refused record; three, in two pieces, for a taken one. Assumes nothing.
-use borrow.Author.Rules.{rules}
 use Rattle.lines.proofs.Putting.{all_refused, all_taken}
 use Rattle.lines.proofs.put_lines.Goals as goal
-
-ruleset all = (rules)
 
 pub returns-in-Refused : goal.returns-in-Refused
 returns-in-Refused c = search all_refused

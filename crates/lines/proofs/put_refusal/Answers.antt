@@ -1,10 +1,7 @@
 -- The number and the value are `paper`'s, and the line's end stands behind them. Assumes nothing.
-use borrow.Author.Rules.{rules}
 use Rattle.paper.specs.Program.{text}
 use Rattle.lines.proofs.Putting.{refusal_done}
 use Rattle.lines.proofs.put_refusal.Goals as goal
-
-ruleset all = (rules)
 
 pub returns : goal.returns
 unfolding text

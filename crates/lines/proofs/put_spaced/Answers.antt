@@ -1,10 +1,7 @@
 -- The space, and the digits behind it. Assumes nothing.
-use borrow.Author.Rules.{rules}
 use Rattle.paper.specs.Program.{text}
 use Rattle.lines.proofs.Putting.{spaced-room, spaced_done}
 use Rattle.lines.proofs.put_spaced.Goals as goal
-
-ruleset all = (rules)
 
 pub put_digits-requires : goal.put_digits-requires
 put_digits-requires c = search spaced-room

@@ -1,9 +1,6 @@
 -- Too long an input is refused at once; any other is looked at, and both answers are printed. Assumes nothing.
-use borrow.Author.Rules.{rules}
 use Rattle.lines.proofs.Reporting.{is-long, is-looked}
 use Rattle.lines.proofs.report.Goals as goal
-
-ruleset all = (rules)
 
 pub returns-then-bytes-gt65536 : goal.returns-then-bytes-gt65536
 returns-then-bytes-gt65536 c = search is-long

@@ -1,9 +1,6 @@
 -- The output is zeroed before the lines are written. Assumes nothing.
-use borrow.Author.Rules.{rules}
 use Rattle.lines.proofs.Putting.{then_zeros}
 use Rattle.lines.proofs.write_lines.Goals as goal
-
-ruleset all = (rules)
 
 pub returns : goal.returns
 returns c = search then_zeros

@@ -1,9 +1,6 @@
 -- The refusal or the bytes written, in numbers. Assumes nothing.
-use borrow.Author.Rules.{rules}
 use Rattle.press.proofs.Told.{refused_output, given_output}
 use Rattle.press.proofs.antlophis_build.Goals as goal
-
-ruleset all = (rules)
 
 pub returns-in-Refused : goal.returns-in-Refused
 returns-in-Refused c = search refused_output

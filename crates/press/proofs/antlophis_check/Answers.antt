@@ -1,9 +1,6 @@
 -- The refusal or the counts, in numbers. Assumes nothing.
-use borrow.Author.Rules.{rules}
 use Rattle.press.proofs.Told.{refused_check, given_check}
 use Rattle.press.proofs.antlophis_check.Goals as goal
-
-ruleset all = (rules)
 
 pub returns-in-Refused : goal.returns-in-Refused
 returns-in-Refused c = search refused_check

@@ -1,9 +1,6 @@
 -- The refusal or the two holes and their distance, in numbers. Assumes nothing.
-use borrow.Author.Rules.{rules}
 use Rattle.press.proofs.Told.{refused_closest, given_closest}
 use Rattle.press.proofs.antlophis_closest.Goals as goal
-
-ruleset all = (rules)
 
 pub returns-in-Refused : goal.returns-in-Refused
 returns-in-Refused c = search refused_closest

@@ -1,9 +1,6 @@
 -- The refusal, or 1 for yes and 0 for no, in numbers. Assumes nothing.
-use borrow.Author.Rules.{rules}
 use Rattle.press.proofs.Told.{refused_pitch, yes_pitch, no_pitch}
 use Rattle.press.proofs.antlophis_pitch.Goals as goal
-
-ruleset all = (rules)
 
 pub returns-in-Refused : goal.returns-in-Refused
 returns-in-Refused c = search refused_pitch

@@ -3,8 +3,6 @@ use borrow.Author.Rules.{rules}
 use Rattle.questions.proofs.Replies.{is_single, is_low, wanted, is-closest}
 use Rattle.questions.proofs.closest_of.Goals as goal
 
-ruleset all = (rules)
-
 pub returns-then-p-eq1 : goal.returns-then-p-eq1
 returns-then-p-eq1 c = search is_single
 

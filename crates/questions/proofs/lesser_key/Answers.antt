@@ -1,9 +1,6 @@
 -- The first axis tells, or the two nodes are looked at. Assumes nothing.
-use borrow.Author.Rules.{rules}
 use Rattle.questions.proofs.Keys.{axis-far, near}
 use Rattle.questions.proofs.lesser_key.Goals as goal
-
-ruleset all = (rules)
 
 pub returns-then-least-squared : goal.returns-then-least-squared
 returns-then-least-squared c = search axis-far

@@ -1,9 +1,6 @@
 -- One case for each return. Assumes nothing.
-use borrow.Author.Rules.{rules}
 use Rattle.questions.proofs.Keys.{corners_far, left-many, right-many, both_one}
 use Rattle.questions.proofs.lesser_near.Goals as goal
-
-ruleset all = (rules)
 
 pub returns-then-least-far : goal.returns-then-least-far
 returns-then-least-far c = search corners_far

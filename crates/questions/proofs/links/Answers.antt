@@ -15,8 +15,6 @@ linked : (bytes work mid out : List ℕ) {work' z out' : List ℕ} {r : Wrote} �
     → Made (links bytes) (length work) z out' r → work' ≡ replicate (length mid) 0 → WritesLinks bytes r work work' out out'
 linked bytes = made_wiped (links bytes)
 
-ruleset all = (rules)
-
 pub links_on-made-requires : goal.links_on-made-requires
 links_on-made-requires c = search zeroed
 

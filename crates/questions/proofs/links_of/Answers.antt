@@ -1,9 +1,6 @@
 -- One case for each return. Assumes nothing.
-use borrow.Author.Rules.{rules}
 use Rattle.questions.proofs.LinkReplies.{links-low, links-short, links_fit, links-made}
 use Rattle.questions.proofs.links_of.Goals as goal
-
-ruleset all = (rules)
 
 pub returns-then-p : goal.returns-then-p
 returns-then-p c = search links-low

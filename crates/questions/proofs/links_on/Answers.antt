@@ -4,8 +4,6 @@ use Rattle.questions.proofs.Replies.{known}
 use Rattle.questions.proofs.LinkReplies.{links_refused, links_there}
 use Rattle.questions.proofs.links_on.Goals as goal
 
-ruleset all = (rules)
-
 pub links_of-requires : goal.links_of-requires
 links_of-requires c = record { known = search known; blank = search rules }
 

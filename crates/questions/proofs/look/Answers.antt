@@ -3,7 +3,5 @@ use borrow.Author.Rules.{rules}
 use Rattle.questions.proofs.Replies.{look_wiped}
 use Rattle.questions.proofs.look.Goals as goal
 
-ruleset all = (rules)
-
 pub returns : goal.returns
 returns c = search (look_wiped, rules)

@@ -1,9 +1,6 @@
 -- What the inspection said, and for a taken record what its slate says. Assumes nothing.
-use borrow.Author.Rules.{rules}
 use Rattle.questions.proofs.Replies.{known, none_looked, both_looked}
 use Rattle.questions.proofs.look_on.Goals as goal
-
-ruleset all = (rules)
 
 pub closest_of-requires : goal.closest_of-requires
 closest_of-requires c = search known

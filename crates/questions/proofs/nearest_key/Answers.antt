@@ -1,9 +1,6 @@
 -- The pairs are in their part of the record, and their least key is that of the closest two holes. Assumes nothing.
-use borrow.Author.Rules.{rules}
 use Rattle.questions.proofs.Meaning.{pairs_there, nearest-least}
 use Rattle.questions.proofs.nearest_key.Goals as goal
-
-ruleset all = (rules)
 
 pub least_key-requires : goal.least_key-requires
 least_key-requires c = search pairs_there

@@ -3,7 +3,5 @@ use borrow.Author.Rules.{rules}
 use Rattle.questions.proofs.Replies.{pitch_wiped}
 use Rattle.questions.proofs.pitch.Goals as goal
 
-ruleset all = (rules)
-
 pub returns : goal.returns
 returns c = search (pitch_wiped, rules)

@@ -3,8 +3,6 @@ use borrow.Author.Rules.{rules}
 use Rattle.questions.proofs.Replies.{wanted, far-small, pitch-single, pitch-low, pitch-yes, pitch-no}
 use Rattle.questions.proofs.pitch_of.Goals as goal
 
-ruleset all = (rules)
-
 pub returns-then-parts-eq1 : goal.returns-then-parts-eq1
 returns-then-parts-eq1 c = search pitch-single
 

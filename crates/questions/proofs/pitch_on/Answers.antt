@@ -1,9 +1,6 @@
 -- What the inspection said, and for a taken record what its slate says. Assumes nothing.
-use borrow.Author.Rules.{rules}
 use Rattle.questions.proofs.Replies.{known, no_pitch, pitch_there}
 use Rattle.questions.proofs.pitch_on.Goals as goal
-
-ruleset all = (rules)
 
 pub pitch_of-requires : goal.pitch_of-requires
 pitch_of-requires c = search known

@@ -15,8 +15,6 @@ built : (c : List ℕ) (a b : ℕ) (work mid out : List ℕ) {work' z out' : Lis
     → Made (build c a b) (length work) z out' r → work' ≡ replicate (length mid) 0 → Builds c a b r work work' out out'
 built c a b = made_wiped (build c a b)
 
-ruleset all = (rules)
-
 pub build_clean-made-requires : goal.build_clean-made-requires
 build_clean-made-requires c = search zeroed
 

@@ -6,8 +6,6 @@ use Rattle.record.proofs.BuildAnswers.{refuse_work, refuse-odd, refuse-none, ref
 use Rattle.record.proofs.Outputs.{made_there}
 use Rattle.record.proofs.build_clean.Goals as goal
 
-ruleset all = (rules)
-
 pub returns-then-work-lt65536 : goal.returns-then-work-lt65536
 returns-then-work-lt65536 c = search (refuse_work, rules)
 
@@ -30,9 +28,9 @@ pub fill-requires : goal.fill-requires
 fill-requires c =
     record {
       buildable = buildable c.args.holes.now (λ k. omega (arith, (c.type_inv.holes k).fits)) _ _ c.ratio_ok.ensures (rw c.if-not-ratio_ok.false refl) c.repeated.ensures
-          (search all) (search all) (search all) (search all);
-      grid = search all;
-      blank = search all;
+          (search rules) (search rules) (search rules) (search rules);
+      grid = search rules;
+      blank = search rules;
     }
 
 pub returns : goal.returns

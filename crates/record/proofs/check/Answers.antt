@@ -1,9 +1,6 @@
 -- The counts of a taken record, or the refusal. Assumes nothing.
-use borrow.Author.Rules.{rules}
 use Rattle.record.proofs.TakeCases.{is-refused, is-taken}
 use Rattle.record.proofs.check.Goals as goal
-
-ruleset all = (rules)
 
 pub returns-in-Refused : goal.returns-in-Refused
 returns-in-Refused c = search is-refused

@@ -3,13 +3,11 @@ use borrow.Author.Rules.{rules}
 use Rattle.record.proofs.TakeCases.{is_short, is_cut, parts_there}
 use Rattle.record.proofs.inspect.Goals as goal
 
-ruleset all = (rules)
-
 pub returns-then-work-lt65536 : goal.returns-then-work-lt65536
 returns-then-work-lt65536 c = search is_short
 
 pub inspect_nodes-requires : goal.inspect_nodes-requires
-inspect_nodes-requires c = record { parts_of = search parts_there; grid = search all }
+inspect_nodes-requires c = record { parts_of = search parts_there; grid = search rules }
 
 pub returns-in-Bad : goal.returns-in-Bad
 returns-in-Bad c = search is_cut

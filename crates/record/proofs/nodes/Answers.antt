@@ -1,9 +1,6 @@
 -- The part at the place of the section. Assumes nothing.
-use borrow.Author.Rules.{rules}
 use Rattle.record.proofs.TakeCases.{handed}
 use Rattle.record.proofs.nodes.Goals as goal
-
-ruleset all = (rules)
 
 pub returns : goal.returns
 returns c = search handed

@@ -1,9 +1,6 @@
 -- The two numbers, one after the other. Assumes nothing.
-use borrow.Author.Rules.{rules}
 use Rattle.record.proofs.PutLaws.{entry_done}
 use Rattle.record.proofs.put_entry.Goals as goal
-
-ruleset all = (rules)
 
 pub returns : goal.returns
 returns c = search entry_done

@@ -1,9 +1,6 @@
 -- What `inspect` said, and the slate wiped. Assumes nothing.
-use borrow.Author.Rules.{rules}
 use Rattle.record.proofs.TakeCases.{then_wiped}
 use Rattle.record.proofs.taken_parts.Goals as goal
-
-ruleset all = (rules)
 
 pub returns : goal.returns
 returns c = search then_wiped
