@@ -314,8 +314,7 @@ fn filed<R: Files + Print + Eprint>(rt: &R, name: &str) -> io::Result<u64>
     ensures { IfOk result (λ right. right ≤ 1) }
 {
     match fs::open(rt, name) {
-        Ok(file) => {
-            let mut file = file;
+        Ok(mut file) => {
             let mut bytes = [0u8; 8192];
             let read = lines::read_start(&mut file, &mut bytes)?;
             shown(rt, name, run(&bytes[..read]))
