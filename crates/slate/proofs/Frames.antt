@@ -2,12 +2,14 @@
 -- each side condition is a function into ⊥ or an inequality, which `omega arith` proves at a caller. Assumes nothing.
 use mathlib.Core.Path.{◌≡◌, refl, ◌∙◌}
 use mathlib.Core.List.{List, [], ◌∷◌, ◌++◌}
-use Prim.Native.Nat.{ℕ, zero, ◌+◌, ◌*◌, ◌<◌, ◌≤◌}
+use Prim.Native.Nat.{ℕ, zero, suc, ◌+◌, ◌*◌, ◌<◌, ◌≤◌}
 use native.Mathlib.Omega.{arith}
-use lib.ListN.{replicate}
-use Rattle.words.specs.Area.{Saved}
+use lib.ListN.{get_or, replicate, length-replicate}
+use Rattle.words.specs.Words.{Written}
+use Rattle.words.specs.Area.{word, Saved}
+use Rattle.words.proofs.Laws.{zeros}
 use Rattle.words.proofs.AreaLaws.{word_zeros, run-same, run_save_out, run_save_end}
-use Rattle.slate.specs.Slate.{cell, column, two_words, large, Set, Kept}
+use Rattle.slate.specs.Slate.{cell, column, number, cells, Set, Kept, WordsCleared}
 
 -- ---- a set, given by its address i, which at `Set old new c k v` is 2,048 * c + k
 
@@ -35,6 +37,23 @@ other_column c k s d n h a b = set-column s d n (λ e f. h (omega arith))
 pub wiped_cell : {w : List ℕ} (l : ℕ) → w ≡ replicate l 0 → (c k : ℕ) → cell w c k ≡ zero
 wiped_cell l e c k = rw e (word_zeros l (2_048 * c + k))
 
+-- of n words alone
+pub cleared : {old new : List ℕ} {i n : ℕ} → Written old new (2 * i) (replicate (2 * n) 0) → WordsCleared old new i n
+unfolding word
+cleared {old} {new} {i} {n} p =
+    let at : (k : ℕ) → k < 2 * n → get_or new (2 * i + k) 0 ≡ 0 = λ k h. p.got k (rw length-replicate h) ∙ zeros (2 * n) k in
+    let out : (k : ℕ) → (2 * i ≤ k → k < 2 * i + 2 * n → ⊥) → get_or new k 0 ≡ get_or old k 0 = λ k h. p.rest k (rw length-replicate h) in
+    record {
+      kept = record {
+        len = p.len;
+        rest = λ k h. rw (out (2 * k) (λ a b. h (omega arith) (omega arith)), out (2 * k + 1) (λ a b. h (omega arith) (omega arith)));
+      };
+      zero = λ k h.
+          let e : 2 * (i + k) ≡ 2 * i + 2 * k = omega arith in
+          let f : 2 * (i + k) + 1 ≡ 2 * i + (2 * k + 1) = omega arith in
+          rw (f, e, at (2 * k) (omega arith), at (2 * k + 1) (omega arith));
+    }
+
 -- ---- a step that changes words from lo up to hi only
 
 pub kept_none : {w : List ℕ} {lo hi : ℕ} → Kept w w lo hi
@@ -59,14 +78,14 @@ kept_cell p c k h = p.rest (2_048 * c + k) h
 pub kept_column : {old new : List ℕ} {lo hi : ℕ} → Kept old new lo hi → (c n : ℕ) → (lo < 2_048 * c + n → 2_048 * c < hi → ⊥) → column new c n ≡ column old c n
 kept_column {old} {new} p c n h = run-same new old (2_048 * c) n (λ k a b. p.rest k (λ x y. h (omega arith) (omega arith)))
 
-pub kept_two : {old new : List ℕ} {lo hi : ℕ} → Kept old new lo hi → (i : ℕ) → (lo < i + 2 → i < hi → ⊥) → two_words new i ≡ two_words old i
-kept_two p i h = rw (p.rest i (λ x y. h (omega arith) (omega arith)), p.rest (i + 1) (λ x y. h (omega arith) (omega arith)))
+pub kept_number : {old new : List ℕ} {lo hi : ℕ} → Kept old new lo hi → (n i : ℕ) → (lo < i + n → i < hi → ⊥) → number n new i ≡ number n old i
+kept_number p zero i h = refl
+kept_number p (suc n) i h =
+    rw (p.rest i (λ x y. h (omega arith) (omega arith)), kept_number p n (i + 1) (λ x y. h (omega arith) (omega arith)))
 
-pub kept_large : {old new : List ℕ} {lo hi : ℕ} → Kept old new lo hi → (c k : ℕ) → (lo < 2_048 * c + 4 * k + 4 → 2_048 * c + 4 * k < hi → ⊥)
-    → large new c k ≡ large old c k
-kept_large p c k h =
-    let i = 2_048 * c + 4 * k in
-    omega (arith, kept_two p i (λ x y. h (omega arith) (omega arith)), kept_two p (i + 2) (λ x y. h (omega arith) (omega arith)))
+pub kept_cells : {old new : List ℕ} {lo hi : ℕ} → Kept old new lo hi → (n c k : ℕ) → (lo < 2_048 * c + n * k + n → 2_048 * c + n * k < hi → ⊥)
+    → cells n new c k ≡ cells n old c k
+kept_cells p n c k h = kept_number p n (2_048 * c + n * k) h
 
 -- ---- an example: two sets in columns 0 and 5, and any cell of column 6
 

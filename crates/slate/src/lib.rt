@@ -2,8 +2,8 @@
 // All state the size of a field stands here and nowhere else, so that wiping the area leaves nothing of it.
 #![tactic(auto)]
 
-ghost use Rattle.std.specs.Prelude.{◌≡◌, ◌+◌, ◌*◌, ◌<◌, ◌≤◌, length, replicate};
-ghost use Rattle.slate.specs.Slate.{Within, WordsIn, Columned, WideWithin, LargeWithin, Held, Set, WordsCleared, Cleared, LoadedTwo, SavedTwo, WideHeld, WideSet, LargeHeld, LargeSet};
+ghost use Rattle.std.specs.Prelude.{◌≡◌, ◌^◌, ◌<◌, ◌≤◌, length, replicate};
+ghost use Rattle.slate.specs.Slate.{Within, CellsWithin, WordsIn, Columned, Held, CellsHeld, Set, CellsSet, WordsCleared, Cleared};
 
 // A node's first part; 65,535 for a leaf.
 pub const FIRST: usize = 0;
@@ -77,9 +77,7 @@ pub fn clear_words(work: &mut [u8], i: usize, n: usize)
     requires { WordsIn work.old i n }
     ensures { WordsCleared work.old work.new i n }
 {
-    for k in 0..n {
-        words::save(work, i + k, 0);
-    }
+    words::zero(&mut work[2 * i..2 * (i + n)]);
 }
 
 // Sets the first n cells of column c to 0.
@@ -90,55 +88,30 @@ pub fn clear(work: &mut [u8], c: usize, n: usize)
     clear_words(work, 2048 * c, n);
 }
 
-// The number in the two words from word i on, low word first.
-fn load_two(work: &[u8], i: usize) -> usize
-    requires { 2 * i + 4 ≤ length work.now }
-    ensures { LoadedTwo work.now i result }
+// What entry k from column c on holds: the number in its N cells, low cell first. A wide cell is an entry of 2, a large cell one of 4.
+pub fn cells<const N: usize>(work: &[u8], c: usize, k: usize) -> usize
+    requires width { N ≤ 4 }
+    requires within { CellsWithin N work.now c k }
+    ensures { CellsHeld N work.now c k result }
 {
-    words::load(work, i) + 65536 * words::load(work, i + 1)
+    let from = 2048 * c + N * k;
+    let mut v = 0;
+    for i in (0..N).rev() {
+        v = 65536 * v + words::load(work, from + i);
+    }
+    v
 }
 
-// Writes v into the two words from word i on.
-fn save_two(work: &mut [u8], i: usize, v: usize)
-    requires { (2 * i + 4 ≤ length work.old) × (v < 4294967296) }
-    ensures { SavedTwo work.old work.new i v }
+// Sets entry k from column c on to v.
+pub fn set_cells<const N: usize>(work: &mut [u8], c: usize, k: usize, v: usize)
+    requires within { CellsWithin N work.old c k }
+    requires v_bound { v < 65536 ^ N }
+    ensures { CellsSet N work.old work.new c k v }
 {
-    words::save(work, i, v % 65536);
-    words::save(work, i + 1, v / 65536);
-}
-
-// What wide cell k of column c holds.
-pub fn wide_cell(work: &[u8], c: usize, k: usize) -> usize
-    requires { WideWithin work.now c k }
-    ensures { WideHeld work.now c k result }
-{
-    load_two(work, 2048 * c + 2 * k)
-}
-
-// Sets wide cell k of column c to v.
-pub fn set_wide_cell(work: &mut [u8], c: usize, k: usize, v: usize)
-    requires wide_within { WideWithin work.old c k }
-    requires v_bound { v < 4294967296 }
-    ensures { WideSet work.old work.new c k v }
-{
-    save_two(work, 2048 * c + 2 * k, v);
-}
-
-// What large cell k from column c on holds.
-pub fn large_cell(work: &[u8], c: usize, k: usize) -> usize
-    requires { LargeWithin work.now c k }
-    ensures { LargeHeld work.now c k result }
-{
-    let i = 2048 * c + 4 * k;
-    load_two(work, i) + 4294967296 * load_two(work, i + 2)
-}
-
-// Sets large cell k from column c on to v.
-pub fn set_large_cell(work: &mut [u8], c: usize, k: usize, v: usize)
-    requires { LargeWithin work.old c k }
-    ensures { LargeSet work.old work.new c k v }
-{
-    let i = 2048 * c + 4 * k;
-    save_two(work, i, v % 4294967296);
-    save_two(work, i + 2, v / 4294967296);
+    let from = 2048 * c + N * k;
+    let mut rest = v;
+    for i in 0..N {
+        words::save(work, from + i, rest % 65536);
+        rest /= 65536;
+    }
 }
