@@ -1,40 +1,19 @@
 -- What each public call promises: its whole answer, every byte of its output and of its work area, as a function of the input bytes and of
 -- the lengths of work area and output, never of what these held. Assumes nothing.
-use Rattle.std.specs.Prelude.{◌≡◌, Bool, true, false, List, ◌++◌, ℕ, ◌+◌, ◌-◌, length, replicate, take, drop}
+use Rattle.std.specs.Prelude.{◌≡◌, Bool, List, ◌++◌, ℕ, ◌+◌, ◌-◌, length, replicate, take, drop, Result, Ok, Err}
 use Rattle.std.specs.Borrow.{Bor}
 use Rattle.paper.specs.Record.{Part}
 use Rattle.paper.specs.Refusals.{number, value, Answer, refused, given, build, check}
 use Rattle.paper.specs.Questions.{closest, pitch, links, section}
 use Rattle.paper.specs.declared.Refusal.{Refusal}
-use Rattle.paper.specs.declared.Wrote.{Wrote}
-use Rattle.paper.specs.declared.Wrote.TheVariants as W
-use Rattle.paper.specs.declared.Checked.{Checked}
-use Rattle.paper.specs.declared.Checked.TheVariants as K
-use Rattle.paper.specs.declared.Closest.{Closest}
-use Rattle.paper.specs.declared.Closest.TheVariants as L
-use Rattle.paper.specs.declared.Pitch.{Pitch}
-use Rattle.paper.specs.declared.Pitch.TheVariants as P
 
--- what each case of an answer's enum says in this paper's numbers
+-- a refusal in this paper's numbers; what a call answers, a value or a refusal
 abbrev pub refuses : {A : Type 0} → Refusal → Answer A
 refuses x = refused (number x) (value x)
 
-abbrev pub wrote : Wrote → Answer ℕ
-wrote (W.Bytes n) = given n
-wrote (W.Refused x) = refuses x
-
-abbrev pub checked : Checked → Answer (ℕ × ℕ)
-checked (K.Taken n m) = given (n, m)
-checked (K.Refused x) = refuses x
-
-abbrev pub found : Closest → Answer (ℕ × ℕ × ℕ)
-found (L.Holes i j d) = given (i, j, d)
-found (L.Refused x) = refuses x
-
-abbrev pub pitched : Pitch → Answer Bool
-pitched P.Yes = given true
-pitched P.No = given false
-pitched (P.Refused x) = refuses x
+abbrev pub told : {A : Type 0} → Result A Refusal → Answer A
+told (Ok t) = given t
+told (Err x) = refuses x
 
 -- "A call that finishes an output answers with the bytes it wrote, zeros after them not counted"
 abbrev pub counted : Answer (List ℕ) → Answer ℕ
@@ -63,21 +42,22 @@ pub record PartAt (s r : Bor (List ℕ)) (p : Part) : Type 0 where
   pub place : r.ref_ptr.1 ≡ p.start + s.ref_ptr.1
   pub bytes : r.now ≡ take p.size (drop p.start s.now)
 
--- the public calls. work and out stand for what the areas held before, work' and out' for what they hold then
-abbrev pub Builds : List ℕ → ℕ → ℕ → Wrote → List ℕ → List ℕ → List ℕ → List ℕ → Type 0
-Builds c a b r work work' out out' = Finished (wrote r) (build c a b (length work) (length out)) work work' out out'
+-- the public calls. work and out stand for what the areas held before, work' and out' for what they hold then. A taken record is answered with its
+-- holes and its pairs, the closest pair is two holes and their squared distance
+abbrev pub Builds : List ℕ → ℕ → ℕ → Result ℕ Refusal → List ℕ → List ℕ → List ℕ → List ℕ → Type 0
+Builds c a b r work work' out out' = Finished (told r) (build c a b (length work) (length out)) work work' out out'
 
-abbrev pub Checks : List ℕ → Checked → List ℕ → List ℕ → Type 0
-Checks bytes r work work' = Answered (checked r) (check bytes (length work)) work work'
+abbrev pub Checks : List ℕ → Result (ℕ × ℕ) Refusal → List ℕ → List ℕ → Type 0
+Checks bytes r work work' = Answered (told r) (check bytes (length work)) work work'
 
-abbrev pub FindsClosest : List ℕ → Closest → List ℕ → List ℕ → Type 0
-FindsClosest bytes r work work' = Answered (found r) (closest bytes (length work)) work work'
+abbrev pub FindsClosest : List ℕ → Result (ℕ × ℕ × ℕ) Refusal → List ℕ → List ℕ → Type 0
+FindsClosest bytes r work work' = Answered (told r) (closest bytes (length work)) work work'
 
-abbrev pub TestsPitch : List ℕ → ℕ → Pitch → List ℕ → List ℕ → Type 0
-TestsPitch bytes p r work work' = Answered (pitched r) (pitch bytes p (length work)) work work'
+abbrev pub TestsPitch : List ℕ → ℕ → Result Bool Refusal → List ℕ → List ℕ → Type 0
+TestsPitch bytes p r work work' = Answered (told r) (pitch bytes p (length work)) work work'
 
-abbrev pub WritesLinks : List ℕ → Wrote → List ℕ → List ℕ → List ℕ → List ℕ → Type 0
-WritesLinks bytes r work work' out out' = Finished (wrote r) (links bytes (length work) (length out)) work work' out out'
+abbrev pub WritesLinks : List ℕ → Result ℕ Refusal → List ℕ → List ℕ → List ℕ → List ℕ → Type 0
+WritesLinks bytes r work work' out out' = Finished (told r) (links bytes (length work) (length out)) work work' out out'
 
 -- a section: `part` is holes_part, nodes_part or pairs_part
 pub record HandsBack (part : List ℕ → Part) (bytes r : Bor (List ℕ)) (work work' : List ℕ) : Type 0 where

@@ -1,27 +1,20 @@
 -- Two results that meet a public call's promise are equal: the answer, the output's bytes and the work area's. The areas may have held anything
--- before, as long as their lengths are the same, so no answer depends on what they held. An answer's enum is given back by its numbers.
+-- before, as long as their lengths are the same, so no answer depends on what they held. What a call said is given back by its numbers.
 -- Assumes nothing.
 use mathlib.Core.Path.{◌≡◌, refl, sym, ap, ap₂, ◌∙◌}
 use mathlib.Core.Bool.{Bool, true, false}
 use mathlib.Core.List.{List, [], ◌∷◌}
 use Prim.Native.Nat.{ℕ, ◌+◌}
 use denote.Ref.{Bor}
+use Rattle.std.specs.Prelude.{Result, Ok, Err}
 use lib.Dec.{eqb}
 use lib.ListN.{length, replicate, take, drop}
 use Rattle.paper.specs.Record.{Part}
 use Rattle.paper.specs.Refusals.{number, value, Answer, refused, given, build, check}
 use Rattle.paper.specs.Questions.{closest, pitch, links, section}
-use Rattle.paper.specs.Answers.{wrote, checked, found, pitched, counted, left_in, Answered, Finished, Builds, Checks, FindsClosest, TestsPitch, WritesLinks, HandsBack}
+use Rattle.paper.specs.Answers.{told, counted, left_in, Answered, Finished, Builds, Checks, FindsClosest, TestsPitch, WritesLinks, HandsBack}
 use Rattle.paper.specs.declared.Refusal.{Refusal}
 use Rattle.paper.specs.declared.Refusal.TheVariants as R
-use Rattle.paper.specs.declared.Wrote.{Wrote}
-use Rattle.paper.specs.declared.Wrote.TheVariants as W
-use Rattle.paper.specs.declared.Checked.{Checked}
-use Rattle.paper.specs.declared.Checked.TheVariants as K
-use Rattle.paper.specs.declared.Closest.{Closest}
-use Rattle.paper.specs.declared.Closest.TheVariants as L
-use Rattle.paper.specs.declared.Pitch.{Pitch}
-use Rattle.paper.specs.declared.Pitch.TheVariants as P
 
 -- the refusal with a number and a value
 numbered : List (ℕ → Refusal) → ℕ → ℕ → Refusal
@@ -72,62 +65,37 @@ refusal_back R.Single = refl
 refusal_back (R.Low x) = refl
 refusal_back R.Long = refl
 
--- an answer's enum, from what it says
-module _ {A E : Type 0} (says : E → Answer A) (back : Answer A → E) (again : (r : E) → back (says r) ≡ r) where
-  same_case : (r s : E) → says r ≡ says s → r ≡ s
-  same_case r s e = sym (again r) ∙ ap back e ∙ again s
+-- 15 is the number of one refusal alone
+pub is_single : (x : Refusal) → number x ≡ 15 → x ≡ R.Single
+unfolding refusal numbered the_table
+is_single x e = sym (refusal_back x) ∙ ap (λ (n : ℕ). refusal n (value x)) e
 
-  -- a call without an output
-  answered_once : {asked asked' : Answer A} {r s : E} {u v w x : List ℕ} → asked ≡ asked' → length u ≡ length v
-      → Answered (says r) asked u w → Answered (says s) asked' v x → (r ≡ s) × (w ≡ x)
-  answered_once {r} {s} e l p q = (
-    same_case r s (p.answer ∙ e ∙ sym q.answer),
-    p.wiped ∙ ap (λ (n : ℕ). replicate n 0) l ∙ sym q.wiped,
-  )
+-- what a call said, from its answer
+said : {A : Type 0} → Answer A → Result A Refusal
+said (given x) = Ok x
+said (refused n x) = Err (refusal n x)
 
-wrote_back : Answer ℕ → Wrote
-wrote_back (given n) = W.Bytes n
-wrote_back (refused n x) = W.Refused (refusal n x)
+said_again : {A : Type 0} (r : Result A Refusal) → said (told r) ≡ r
+unfolding said
+said_again (Ok x) = refl
+said_again (Err x) = ap Err (refusal_back x)
 
-wrote_again : (r : Wrote) → wrote_back (wrote r) ≡ r
-unfolding wrote_back
-wrote_again (W.Bytes n) = refl
-wrote_again (W.Refused x) = ap W.Refused (refusal_back x)
+same_case : {A : Type 0} (r s : Result A Refusal) → told r ≡ told s → r ≡ s
+same_case r s e = sym (said_again r) ∙ ap said e ∙ said_again s
 
-checked_back : Answer (ℕ × ℕ) → Checked
-checked_back (given t) = K.Taken t.0 t.1
-checked_back (refused n x) = K.Refused (refusal n x)
-
-checked_again : (r : Checked) → checked_back (checked r) ≡ r
-unfolding checked_back
-checked_again (K.Taken n m) = refl
-checked_again (K.Refused x) = ap K.Refused (refusal_back x)
-
-found_back : Answer (ℕ × ℕ × ℕ) → Closest
-found_back (given t) = L.Holes t.0 t.1 t.2
-found_back (refused n x) = L.Refused (refusal n x)
-
-found_again : (r : Closest) → found_back (found r) ≡ r
-unfolding found_back
-found_again (L.Holes i j d) = refl
-found_again (L.Refused x) = ap L.Refused (refusal_back x)
-
-pitched_back : Answer Bool → Pitch
-pitched_back (given true) = P.Yes
-pitched_back (given false) = P.No
-pitched_back (refused n x) = P.Refused (refusal n x)
-
-pitched_again : (r : Pitch) → pitched_back (pitched r) ≡ r
-unfolding pitched_back
-pitched_again P.Yes = refl
-pitched_again P.No = refl
-pitched_again (P.Refused x) = ap P.Refused (refusal_back x)
+-- a call without an output
+answered_once : {A : Type 0} {asked asked' : Answer A} {r s : Result A Refusal} {u v w x : List ℕ} → asked ≡ asked' → length u ≡ length v
+    → Answered (told r) asked u w → Answered (told s) asked' v x → (r ≡ s) × (w ≡ x)
+answered_once {r} {s} e l p q = (
+  same_case r s (p.answer ∙ e ∙ sym q.answer),
+  p.wiped ∙ ap (λ (n : ℕ). replicate n 0) l ∙ sym q.wiped,
+)
 
 -- a call with an output
-finished_once : {asked asked' : Answer (List ℕ)} {r s : Wrote} {u v w x o q p t : List ℕ} → asked ≡ asked' → length u ≡ length v → length o ≡ length q
-    → Finished (wrote r) asked u w o p → Finished (wrote s) asked' v x q t → (r ≡ s) × (w ≡ x) × (p ≡ t)
+finished_once : {asked asked' : Answer (List ℕ)} {r s : Result ℕ Refusal} {u v w x o q p t : List ℕ} → asked ≡ asked' → length u ≡ length v → length o ≡ length q
+    → Finished (told r) asked u w o p → Finished (told s) asked' v x q t → (r ≡ s) × (w ≡ x) × (p ≡ t)
 finished_once {asked} {r} {s} e l m f g = (
-  same_case wrote wrote_back wrote_again r s (f.answer ∙ ap counted e ∙ sym g.answer),
+  same_case r s (f.answer ∙ ap counted e ∙ sym g.answer),
   f.wiped ∙ ap (λ (n : ℕ). replicate n 0) l ∙ sym g.wiped,
   f.output ∙ ap₂ left_in m e ∙ sym g.output,
 )
@@ -135,20 +103,20 @@ finished_once {asked} {r} {s} e l m f g = (
 -- ---- the public calls
 
 module _ {work work₂ work' work'' : List ℕ} (l : length work ≡ length work₂) where
-  pub one_build : (c : List ℕ) (a b : ℕ) {r s : Wrote} {out out₂ out' out'' : List ℕ} → length out ≡ length out₂
+  pub one_build : (c : List ℕ) (a b : ℕ) {r s : Result ℕ Refusal} {out out₂ out' out'' : List ℕ} → length out ≡ length out₂
       → Builds c a b r work work' out out' → Builds c a b s work₂ work'' out₂ out'' → (r ≡ s) × (work' ≡ work'') × (out' ≡ out'')
   one_build c a b m = finished_once (ap₂ (build c a b) l m) l m
 
-  pub one_check : (bytes : List ℕ) {r s : Checked} → Checks bytes r work work' → Checks bytes s work₂ work'' → (r ≡ s) × (work' ≡ work'')
-  one_check bytes = answered_once checked checked_back checked_again (ap (check bytes) l) l
+  pub one_check : (bytes : List ℕ) {r s : Result (ℕ × ℕ) Refusal} → Checks bytes r work work' → Checks bytes s work₂ work'' → (r ≡ s) × (work' ≡ work'')
+  one_check bytes = answered_once (ap (check bytes) l) l
 
-  pub one_closest : (bytes : List ℕ) {r s : Closest} → FindsClosest bytes r work work' → FindsClosest bytes s work₂ work'' → (r ≡ s) × (work' ≡ work'')
-  one_closest bytes = answered_once found found_back found_again (ap (closest bytes) l) l
+  pub one_closest : (bytes : List ℕ) {r s : Result (ℕ × ℕ × ℕ) Refusal} → FindsClosest bytes r work work' → FindsClosest bytes s work₂ work'' → (r ≡ s) × (work' ≡ work'')
+  one_closest bytes = answered_once (ap (closest bytes) l) l
 
-  pub one_pitch : (bytes : List ℕ) (p : ℕ) {r s : Pitch} → TestsPitch bytes p r work work' → TestsPitch bytes p s work₂ work'' → (r ≡ s) × (work' ≡ work'')
-  one_pitch bytes p = answered_once pitched pitched_back pitched_again (ap (pitch bytes p) l) l
+  pub one_pitch : (bytes : List ℕ) (p : ℕ) {r s : Result Bool Refusal} → TestsPitch bytes p r work work' → TestsPitch bytes p s work₂ work'' → (r ≡ s) × (work' ≡ work'')
+  one_pitch bytes p = answered_once (ap (pitch bytes p) l) l
 
-  pub one_links : (bytes : List ℕ) {r s : Wrote} {out out₂ out' out'' : List ℕ} → length out ≡ length out₂
+  pub one_links : (bytes : List ℕ) {r s : Result ℕ Refusal} {out out₂ out' out'' : List ℕ} → length out ≡ length out₂
       → WritesLinks bytes r work work' out out' → WritesLinks bytes s work₂ work'' out₂ out'' → (r ≡ s) × (work' ≡ work'') × (out' ≡ out'')
   one_links bytes m = finished_once (ap₂ (links bytes) l m) l m
 
