@@ -1,12 +1,11 @@
 -- Boxes on the slate: a box is its sides, and a side is two cells of node k's row in columns LOW and above. So a box is left by whatever
 -- leaves those words, and setting a node's box leaves all other nodes' boxes and every column below LOW. Assumes nothing.
-use mathlib.Core.Path.{◌≡◌, sym, ◌∙◌}
-use mathlib.Core.List.{List, map}
+use mathlib.Core.Path.{◌≡◌, refl, ap, ap₂, ◌∙◌}
+use mathlib.Core.List.{List, ◌∷◌, map}
 use Prim.Native.Nat.{ℕ, zero, suc, ◌+◌, ◌*◌, ◌<◌, ◌≤◌}
-use native.Mathlib.Nat.{zero-add, add-zero}
 use native.Mathlib.Omega.{arith}
 use lib.ListN.{length, get_or, length-map}
-use lib.Seq.{ext_get_or}
+use Rattle.std.proofs.lemmas.List.{get_or-map}
 use Rattle.words.specs.Area.{word, Saved}
 use Rattle.slate.specs.Columns.{LOW, HIGH}
 use Rattle.slate.specs.Slate.{cell, Kept}
@@ -21,20 +20,29 @@ pub length_box : (w : List ℕ) (d k : ℕ) → length (box_on w d k) ≡ d
 unfolding box_on
 length_box w d k = length-map (below d) (side_on w k) ∙ length_from 0 d
 
-map-from : {A : Type 0} (f : ℕ → A) (e : A) (i n x : ℕ) → x < n → get_or (map f (from i n)) x e ≡ f (i + x)
-map-from f e i zero x l = absurd (omega arith)
-map-from f e i (suc n) zero l = rw add-zero
-map-from f e i (suc n) (suc x) l = let g : i + suc x ≡ suc i + x = omega arith in rw g (map-from f e (suc i) n x (omega arith))
+from_at : (i n x : ℕ) → x < n → get_or (from i n) x 0 ≡ i + x
+from_at i zero x l = absurd (omega arith)
+from_at i (suc n) zero l = omega arith
+from_at i (suc n) (suc x) l = omega (arith, from_at (suc i) n x (omega arith))
+
+pub below_at : (x d : ℕ) → x < d → get_or (below d) x 0 ≡ x
+below_at x d l = omega (arith, from_at 0 d x l)
 
 pub box_side : (w : List ℕ) (d k x : ℕ) → x < d → get_or (box_on w d k) x (point 0) ≡ side_on w k x
 unfolding box_on
-box_side w d k x l = rw zero-add at (map-from (side_on w k) (point 0) 0 d x l)
+box_side w d k x l = get_or-map (side_on w k) (below d) x 0 (point 0) (rw length_from l) ∙ ap (side_on w k) (below_at x d l)
 
--- boxes of the same sides
+-- what is the same on each axis
+same_from : {A : Type 0} (f g : ℕ → A) (i n : ℕ) → ((x : ℕ) → x < i + n → f x ≡ g x) → map f (from i n) ≡ map g (from i n)
+same_from f g i zero h = refl
+same_from f g i (suc n) h = ap₂ ◌∷◌ (h i (omega arith)) (same_from f g (suc i) n (λ x l. h x (omega arith)))
+
+pub same_below : {A : Type 0} (f g : ℕ → A) (d : ℕ) → ((x : ℕ) → x < d → f x ≡ g x) → map f (below d) ≡ map g (below d)
+same_below f g d h = same_from f g 0 d (λ x l. h x (omega arith))
+
 pub box_same : (new old : List ℕ) (d j k : ℕ) → ((x : ℕ) → x < d → side_on new j x ≡ side_on old k x) → box_on new d j ≡ box_on old d k
-box_same new old d j k h =
-    ext_get_or (point 0) (box_on new d j) (box_on old d k) (length_box new d j ∙ sym (length_box old d k))
-    (λ x m. let l : x < d = omega (arith, length_box new d j) in box_side new d j x l ∙ h x l ∙ sym (box_side old d k x l))
+unfolding box_on
+box_same new old d j k h = same_below (side_on new j) (side_on old k) d h
 
 -- a box is in the words of columns LOW and above
 pub box_high : (new old : List ℕ) (d k : ℕ) → ((i : ℕ) → 20_480 ≤ i → word new i ≡ word old i) → box_on new d k ≡ box_on old d k
@@ -59,11 +67,11 @@ pub boxed-cell : {old new : List ℕ} {d k : ℕ} {B : Box} → Boxed old new d 
 boxed-cell p c j l m = p.rest (2_048 * c + j) (λ b a h e. omega arith)
 
 -- every other node's sides, and so its box
-pub boxed-side : {old new : List ℕ} {d k : ℕ} {B : Box} → Boxed old new d k B → k < 2_048 → (j x : ℕ) → j < 2_048 → (j ≡ k → ⊥)
-    → side_on new j x ≡ side_on old j x
-boxed-side p l j x m ne =
-    rw (p.rest (2_048 * (LOW + 2 * x) + j) (λ c a b e. ne (omega arith)), p.rest (2_048 * (HIGH + 2 * x) + j) (λ c a b e. ne (omega arith)))
+pub other_side : (old new : List ℕ) {k : ℕ} → ((i : ℕ) → ((c : ℕ) → LOW ≤ c → c < 16 → i ≡ 2_048 * c + k → ⊥) → word new i ≡ word old i) → k < 2_048
+    → (j x : ℕ) → j < 2_048 → (j ≡ k → ⊥) → side_on new j x ≡ side_on old j x
+other_side old new r l j x m ne =
+    rw (r (2_048 * (LOW + 2 * x) + j) (λ c a b e. ne (omega arith)), r (2_048 * (HIGH + 2 * x) + j) (λ c a b e. ne (omega arith)))
 
 pub boxed_other : {old new : List ℕ} {d k : ℕ} {B : Box} → Boxed old new d k B → k < 2_048 → (j : ℕ) → j < 2_048 → (j ≡ k → ⊥)
     → box_on new d j ≡ box_on old d j
-boxed_other {old} {new} {d} p l j m ne = box_same new old d j j (λ x h. boxed-side p l j x m ne)
+boxed_other {old} {new} {d} p l j m ne = box_same new old d j j (λ x h. other_side _ _ p.rest l j x m ne)

@@ -11,8 +11,7 @@ use borrow.Author.Count.{below_more}
 use borrow.Author.Tests.{eqb-true, eqb-false}
 use Rattle.words.specs.Words.{Read}
 use Rattle.slate.specs.Columns.{MARKS, SCRATCH}
-use Rattle.slate.specs.Slate.{cell, Grid, Held, Set, Cleared}
-use Rattle.slate.proofs.Frames.{set-cell}
+use Rattle.slate.specs.Slate.{cell, Grid, Held, Cleared}
 use Rattle.paper.specs.Field.{Hole, hole_at}
 use Rattle.paper.proofs.ListLaws.{cases, both, same_is}
 use Rattle.field.specs.Boxes.{HolesIn, HoleIn}
@@ -33,9 +32,6 @@ bucket_none s o = record { is = rw (hole-none s o); small = omega arith }
 
 pub bucket_more : {s : List ℕ} {x o b c : ℕ} → Bucketed s x o b → Read 2 s (o + 2 * x) c → Bucketed s (x + 1) o ((37 * b + c) % BUCKETS)
 bucket_more {s} {x} {o} p r = record { is = rw (hole_more x s o, mixed_end, ← r.is, ← p.is); small = omega arith }
-
-pub bucket_done : {s : List ℕ} {x d o b : ℕ} → Bucketed s x o b → x ≤ d → d ≤ x → Bucketed s d o b
-bucket_done {x} {d} p l m = let e : x ≡ d = omega arith in rw e at p
 
 -- ---- a walk along a chain
 
@@ -83,16 +79,6 @@ module _ {s w : List ℕ} {d i : ℕ} (h : Chained s d w i) where
   not_met a l = no_repeat d s i (λ j m e. on_none (a.ahead j m e) l)
 
 -- ---- one more hole
-
-pub pushed : {old mid new : List ℕ} {i b u : ℕ} → Held old MARKS b u → Set old mid SCRATCH i u → Set mid new MARKS b (i + 1) → i < 1_024 → b < 2_048
-    → Pushed old new i b
-pushed {i} h p q l m =
-    record {
-      len = q.len ∙ p.len;
-      head = q.here;
-      next = set-cell q SCRATCH i (omega arith) ∙ p.here ∙ h.is;
-      rest = λ k f g. q.rest k f ∙ p.rest k g;
-    }
 
 pub chained_none : {s old new : List ℕ} {d : ℕ} → Grid old → Cleared old new MARKS BUCKETS → Chained s d new 0
 chained_none g z =

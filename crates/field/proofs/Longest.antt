@@ -66,13 +66,11 @@ module _ (w : List ℕ) (k : ℕ) where
     pub best-stays : v ≤ u → best ≡ axis (box_on w (x + 1) k)
     best-stays l = e ∙ sym (rw (box_more w x k) (axis_stays (box_on w x k) (side_on w k x) (rw (← best-long, ← q) l)))
 
-  pub best_done : (x d best : ℕ) → best ≡ axis (box_on w x k) → x ≤ d → d ≤ x → best ≡ axis (box_on w d k)
-  best_done x d best e l m = let f : x ≡ d = omega arith in rw f at e
-
 -- the longest side itself
 pub longest-none : (w : List ℕ) (k : ℕ) → 0 ≡ longest (box_on w 0 k)
 unfolding longest box_on
 longest-none w k = refl
 
-pub longest_more : (w : List ℕ) (x k : ℕ) → longest (box_on w (x + 1) k) ≡ max (longest (box_on w x k)) (long (side_on w k x))
-longest_more w x k = ap longest (box_more w x k) ∙ longest_end (box_on w x k) (side_on w k x)
+pub longest_more : (w : List ℕ) (k x most e r : ℕ) → most ≡ longest (box_on w x k) → e ≡ long (side_on w k x) → r ≡ max most e
+    → r ≡ longest (box_on w (x + 1) k)
+longest_more w k x most e r m f g = rw (box_more, longest_end, g, m, f)

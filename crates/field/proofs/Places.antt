@@ -7,19 +7,22 @@ use mathlib.Core.List.{List}
 use Prim.Native.Nat.{ℕ, ◌+◌, ◌*◌, ◌<◌, ◌≤◌}
 use native.Mathlib.Nat.{zero-add, mul-le-mul_left}
 use native.Mathlib.Omega.{arith}
-use lib.ListN.{get_or}
+use lib.ListN.{length, get_or}
 use borrow.Author.Count.{below_more}
-use Rattle.words.specs.Words.{Read}
+use Rattle.std.specs.Prelude.{MatchBool}
+use Rattle.std.specs.List.{AllWithin, HoldsAt, range_with_len}
+use Rattle.std.proofs.lemmas.List.FromFn.{length-range_with_len, get_or-range_with_len}
+use Rattle.words.specs.Words.{be}
 use Rattle.paper.specs.Lists.{same}
-use Rattle.paper.specs.Field.{hole, hole_at, holes_at}
+use Rattle.paper.specs.Field.{hole, list_at, hole_at, holes_at}
 use Rattle.paper.specs.Rules.{repeats, Repeats}
 use Rattle.paper.proofs.ListLaws.{both, not_so, same_is}
 use Rattle.theory.proofs.Reading.{hole_read, coordinate_read}
 use Rattle.theory.proofs.Statements.{repeats_is}
-use Rattle.field.specs.declared.Found.TheVariants.{At, Nothing}
+use Rattle.std.specs.Prelude.{Some, None}
 use Rattle.field.specs.Found.{Finds}
 use Rattle.field.specs.Boxes.{HolesIn, HoleIn}
-use Rattle.field.proofs.Axis.{hole-none, hole_more}
+use Rattle.field.proofs.Boxes.{same_below}
 
 -- ---- the holes that there are
 
@@ -29,25 +32,29 @@ hole_in {d} h l = record { axes = h.axes; few = omega (arith, h.few); here = ome
 pub hole_lower : {s : List ℕ} {d i j : ℕ} → HoleIn s d i → j < i → HoleIn s d j
 hole_lower {d} h l = record { axes = h.axes; few = omega (arith, h.few); here = omega (arith, h.here, mul-le-mul_left (2 * d) l) }
 
--- ---- the places at bytes o and p, axis by axis
+-- ---- the places at bytes o and p, by a walk over the axes
 
 module _ (s : List ℕ) (o p : ℕ) where
-  pub alike_none : hole_at 0 s o ≡ hole_at 0 s p
-  alike_none = rw (hole-none s o, hole-none s p)
+  abbrev pub Alike : ℕ → Type 0
+  Alike x = be 2 s (o + 2 * x) ≡ be 2 s (p + 2 * x)
 
-  pub alike_more : (x u v : ℕ) → hole_at x s o ≡ hole_at x s p → Read 2 s (o + 2 * x) u → Read 2 s (p + 2 * x) v → u ≡ v
-      → hole_at (x + 1) s o ≡ hole_at (x + 1) s p
-  alike_more x u v e f g h = rw (hole_more x s o, hole_more x s p, e, ← f.is, ← g.is, h)
+module _ (s : List ℕ) (o p d : ℕ) where
+  axes-at : (P : ℕ → Type 0) (x : ℕ) → x < d → P (get_or (range_with_len 0 d) x 0) → P x
+  axes-at P x l h = rw (get_or-range_with_len 0 d x 0 l, zero-add) at h
 
-  pub alike_all : (x d : ℕ) → hole_at x s o ≡ hole_at x s p → x ≤ d → d ≤ x → true ≡ same (hole_at d s o) (hole_at d s p)
-  alike_all x d e l m = let f : x ≡ d = omega arith in sym ((same_is (hole_at d s o) (hole_at d s p)).1 (rw f at e))
-
-  pub unlike : (x d u v : ℕ) → x < d → Read 2 s (o + 2 * x) u → Read 2 s (p + 2 * x) v → (u ≡ v → ⊥)
-      → false ≡ same (hole_at d s o) (hole_at d s p)
-  unlike x d u v l f g h =
+  pub alike : (t : Bool) → MatchBool t (AllWithin (Alike s o p) (range_with_len 0 d) 0 (length (range_with_len 0 d)))
+      ((x : ℕ) × (x < length (range_with_len 0 d)) × HoldsAt (λ y. Alike s o p y → ⊥) (range_with_len 0 d) x)
+      → t ≡ same (hole_at d s o) (hole_at d s p)
+  unfolding hole_at list_at
+  alike true h =
+      sym ((same_is (hole_at d s o) (hole_at d s p)).1 (same_below _ _ d (λ x l.
+      axes-at (Alike s o p) x l (h x 0 (omega arith) (omega (arith, length-range_with_len 0 d))))))
+  alike false h =
       sym (not_so (λ t.
+      let x = h.0 in
+      let l : x < d = omega (arith, h.1, length-range_with_len 0 d) in
       let e = ap (λ (q : List ℕ). get_or q x 0) ((same_is (hole_at d s o) (hole_at d s p)).0 t) in
-      h (f.is ∙ sym (coordinate_read d s o x l) ∙ e ∙ coordinate_read d s p x l ∙ sym g.is)))
+      axes-at (λ y. Alike s o p y → ⊥) x l (h.2 0) (sym (coordinate_read d s o x l) ∙ e ∙ coordinate_read d s p x l)))
 
 -- ---- repeats
 
@@ -99,8 +106,8 @@ module _ (d : ℕ) (s : List ℕ) where
   pub none_before_more : {n i : ℕ} (t : Bool) → NoneBefore n i → i < n → t ≡ again i → t ≡ false → NoneBefore n (i + 1)
   none_before_more {n} {i} t p l e f = record { none = below_more _ i p.none (λ r. both ((again_is n i l).1 r) (sym e ∙ f)) }
 
-  pub first_repeat : (n i : ℕ) (t : Bool) → NoneBefore n i → i < n → t ≡ again i → t ≡ true → Finds (Repeats (holes_at d s 0 n)) n (At i)
+  pub first_repeat : (n i : ℕ) (t : Bool) → NoneBefore n i → i < n → t ≡ again i → t ≡ true → Finds (Repeats (holes_at d s 0 n)) n (Some i)
   first_repeat n i t p l e f = record { within = l; holds = (again_is n i l).0 (sym e ∙ f); none_before = p.none }
 
-  pub no_repeats : (n i : ℕ) → NoneBefore n i → n ≤ i → Finds (Repeats (holes_at d s 0 n)) n Nothing
+  pub no_repeats : (n i : ℕ) → NoneBefore n i → n ≤ i → Finds (Repeats (holes_at d s 0 n)) n None
   no_repeats n i p l k h r = p.none k (omega arith) r

@@ -1,13 +1,12 @@
 -- Chains of holes on the slate, so that a hole is compared only with those of its bucket, a number that its coordinates make. Cell b of column
 -- MARKS begins the chain of bucket b, and cell k of column SCRATCH goes on behind hole k: 0 is the end, and j + 1 stands for hole j. Assumes nothing.
-use Rattle.std.specs.Prelude.{◌≡◌, List, [], ◌∷◌, ℕ, ◌+◌, ◌*◌, ◌%◌, ◌<◌, ◌≤◌, length}
+use Rattle.std.specs.Prelude.{◌≡◌, List, [], ◌∷◌, ℕ, ◌+◌, ◌*◌, ◌%◌, ◌<◌, ◌≤◌, length, Option}
 use Rattle.words.specs.Area.{word}
 use Rattle.slate.specs.Columns.{MARKS, SCRATCH}
 use Rattle.slate.specs.Slate.{cell, Grid}
 use Rattle.paper.specs.Field.{Hole, hole_at, holes_at}
 use Rattle.paper.specs.Rules.{Repeats}
 use Rattle.field.specs.Found.{Finds}
-use Rattle.field.specs.declared.Found.{Found}
 
 -- how many buckets there are
 abbrev pub BUCKETS : ℕ
@@ -43,6 +42,6 @@ pub record Pushed (old new : List ℕ) (i b : ℕ) : Type 0 where
   pub rest : (k : ℕ) → (k ≡ 2_048 * MARKS + b → ⊥) → (k ≡ 2_048 * SCRATCH + i → ⊥) → word new k ≡ word old k
 
 -- r is the least repeat among n holes
-pub record Searched (hs : List ℕ) (d n : ℕ) (old new : List ℕ) (r : Found) : Type 0 where
+pub record Searched (hs : List ℕ) (d n : ℕ) (old new : List ℕ) (r : Option ℕ) : Type 0 where
   pub len : length new ≡ length old
   pub found : Finds (Repeats (holes_at d hs 0 n)) n r

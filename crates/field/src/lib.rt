@@ -2,25 +2,20 @@
 // Everything is over d coordinates, one to three of them.
 #![tactic(auto)]
 
-ghost use Rattle.std.specs.Prelude.{◌≡◌, ◌&&◌, not, ◌+◌, ◌*◌, ◌<◌, ◌≤◌, min, max, eqb, leb, get_or};
+ghost use Rattle.std.specs.Prelude.{ℕ, map, ◌≡◌, ◌&&◌, not, ◌+◌, ◌*◌, ◌<◌, ◌≤◌, min, max, eqb, leb, get_or};
 ghost use Rattle.words.specs.Words.{Read};
 ghost use Rattle.slate.specs.Slate.{Grid};
-ghost use Rattle.paper.specs.Lists.{same};
+ghost use Rattle.paper.specs.Lists.{same, below};
 ghost use Rattle.paper.specs.Field.{hole_at, holes_at, gap, square, distance², Ratio};
-ghost use Rattle.paper.specs.Tree.{point, spot, around, long, longest, axis};
+ghost use Rattle.paper.specs.Tree.{Side, point, spot, around, long, longest, axis};
 ghost use Rattle.paper.specs.Separation.{G, D, separated};
 ghost use Rattle.paper.specs.Rules.{repeats};
 ghost use Rattle.field.specs.Boxes.{HolesIn, HoleIn, NodeOn, Boxed, side_on, box_on, low_end, corner};
 ghost use Rattle.field.specs.Buckets.{Bucketed, Chained, Pushed, Searched};
 ghost use Rattle.field.specs.Reach.{reach};
-ghost use Rattle.field.specs.Sides.{side, side_around, twice_centre, gap_on, SideIn, Sided, Squared};
+ghost use Rattle.field.specs.Sides.{side_around, twice_centre, gap_on, squares, SideIn, Sided, LeftFrom, Squared};
 
-// What a search over numbers finds: the least with a property.
-#[derive(Clone, Copy)]
-pub enum Found {
-    At(usize),
-    Nothing,
-}
+use std::marker::Model;
 
 // Coordinate x of hole i.
 pub fn coordinate(holes: &[u8], d: usize, i: usize, x: usize) -> usize
@@ -28,7 +23,7 @@ pub fn coordinate(holes: &[u8], d: usize, i: usize, x: usize) -> usize
     requires x_lt_d { x < d }
     ensures { Read 2 holes.now (2 * d * i + 2 * x) result }
 {
-    words::get16(holes, 2 * d * i + 2 * x)
+    words::get::<2>(holes, 2 * d * i + 2 * x)
 }
 
 // Whether holes i and j stand at one place.
@@ -37,12 +32,7 @@ pub fn same_place(holes: &[u8], d: usize, i: usize, j: usize) -> bool
     requires hole_in_2 { HoleIn holes.now d j }
     ensures { result ≡ same (hole_at d holes.now (2 * d * i)) (hole_at d holes.now (2 * d * j)) }
 {
-    for x in 0..d {
-        if coordinate(holes, d, i, x) != coordinate(holes, d, j, x) {
-            return false;
-        }
-    }
-    true
+    (0..d).all(|x| coordinate(holes, d, i, x) == coordinate(holes, d, j, x))
 }
 
 // How many buckets holes are sorted into; a prime, so that holes on a grid are spread.
@@ -89,7 +79,7 @@ fn push(work: &mut [u8], i: usize, b: usize)
 }
 
 // The least of n holes that stands where a lower-numbered one does. Each is compared only with those of its bucket.
-pub fn repeated(work: &mut [u8], holes: &[u8], d: usize, n: usize) -> Found
+pub fn repeated(work: &mut [u8], holes: &[u8], d: usize, n: usize) -> Option<usize>
     requires grid { Grid work.old }
     requires holes_in { HolesIn holes.now d n }
     ensures { Searched holes.now d n work.old work.new result }
@@ -98,36 +88,94 @@ pub fn repeated(work: &mut [u8], holes: &[u8], d: usize, n: usize) -> Found
     for i in 0..n {
         let b = bucket(holes, d, i);
         if is_repeat(work, holes, d, i, b) {
-            return Found::At(i);
+            return Some(i);
         }
         push(work, i, b);
     }
-    Found::Nothing
+    None
 }
 
-// The low end of node k's side on axis x, and the high end.
-fn low(work: &[u8], x: usize, k: usize) -> usize
+// One side of a box: from its low end to its high end, both included and both coordinates.
+#[derive(Clone, Copy)]
+struct Side {
+    low: usize,
+    high: usize,
+}
+
+impl Model for Side {
+    ghost Value = { Side };
+
+    ghost view = { λ s. record { low = s.low; high = s.high } };
+
+    ghost inverse = { λ s. record { low = s.low; high = s.high } };
+
+    ghost invariant = { λ s. (s.low < 65536) × (s.high < 65536) };
+}
+
+impl Side {
+    // The side that is one coordinate.
+    fn point(c: usize) -> Self
+        requires { c < 65536 }
+        ensures { result ≡ point c }
+    {
+        Side { low: c, high: c }
+    }
+
+    // The smallest side that holds both.
+    fn around(self, other: Self) -> Self
+        ensures { result ≡ side_around self other }
+    {
+        Side {
+            low: self.low.min(other.low),
+            high: self.high.max(other.high),
+        }
+    }
+
+    // How far it is from its low end to its high end.
+    fn length(self) -> usize
+        ensures { (result ≡ long self) × (result < 65536) }
+    {
+        self.high.saturating_sub(self.low)
+    }
+
+    // Twice its centre.
+    fn centre(self) -> usize
+        ensures { (result ≡ twice_centre self) × (result < 131072) }
+    {
+        self.low + self.high
+    }
+}
+
+// Node k's side on axis x.
+fn side_on(work: &[u8], x: usize, k: usize) -> Side
     requires { SideIn work.now x k }
-    ensures { (result ≡ (side_on work.now k x).low) × (result < 65536) }
+    ensures { result ≡ side_on work.now k x }
 {
-    slate::cell(work, slate::LOW + 2 * x, k)
+    Side {
+        low: slate::cell(work, slate::LOW + 2 * x, k),
+        high: slate::cell(work, slate::HIGH + 2 * x, k),
+    }
 }
 
-fn high(work: &[u8], x: usize, k: usize) -> usize
-    requires { SideIn work.now x k }
-    ensures { (result ≡ (side_on work.now k x).high) × (result < 65536) }
+// Node k's side on axis x becomes s.
+fn set_side(work: &mut [u8], x: usize, k: usize, s: Side)
+    requires { SideIn work.old x k }
+    ensures { Sided work.old work.new x k s }
 {
-    slate::cell(work, slate::HIGH + 2 * x, k)
+    slate::set_cell(work, slate::LOW + 2 * x, k, s.low);
+    slate::set_cell(work, slate::HIGH + 2 * x, k, s.high);
 }
 
-// Node k's side on axis x goes from l to h.
-fn set_side(work: &mut [u8], x: usize, k: usize, l: usize, h: usize)
-    requires side_in { SideIn work.old x k }
-    requires l_bound { (l < 65536) × (h < 65536) }
-    ensures { Sided work.old work.new x k (side l h) }
+// Sets node k's box, one side after another, to what `of` makes of the slate and of an axis whose side is still as it was.
+fn set_box<F: Fn(&[u8], usize) -> Side>(work: &mut [u8], d: usize, k: usize, of: F)
+    requires node_on { NodeOn work.old d k }
+    requires callable { (w : _) (x : _) → x < d → LeftFrom work.old w.now k x → F.pre of w x }
+    ensures { (f : ℕ → Side) → ((w : _) (x : _) (s : _) → x < d → LeftFrom work.old w.now k x → F.post of w x s → s ≡ f x) → Boxed work.old work.new d k (map f (below d)) }
 {
-    slate::set_cell(work, slate::LOW + 2 * x, k, l);
-    slate::set_cell(work, slate::HIGH + 2 * x, k, h);
+    for x in 0..d {
+        let s = of(work, x);
+        set_side(work, x, k, s);
+    }
 }
 
 // Node k's box is the place of hole h.
@@ -136,34 +184,7 @@ pub fn set_point(work: &mut [u8], holes: &[u8], d: usize, k: usize, h: usize)
     requires hole_in { HoleIn holes.now d h }
     ensures { Boxed work.old work.new d k (spot (hole_at d holes.now (2 * d * h))) }
 {
-    for x in 0..d {
-        let c = coordinate(holes, d, h, x);
-        set_side(work, x, k, c, c);
-    }
-}
-
-// The lesser and the greater of two numbers.
-pub fn lesser(x: usize, y: usize) -> usize
-    ensures { result ≡ min x y }
-{
-    if x < y { x } else { y }
-}
-
-pub fn greater(x: usize, y: usize) -> usize
-    ensures { result ≡ max x y }
-{
-    if x < y { y } else { x }
-}
-
-// Node k's side on axis x is the smallest that holds those of nodes i and j.
-fn set_side_around(work: &mut [u8], x: usize, k: usize, i: usize, j: usize)
-    requires side_in { SideIn work.old x k }
-    requires i_bound { (i < 2048) × (j < 2048) }
-    ensures { Sided work.old work.new x k (side_around (side_on work.old i x) (side_on work.old j x)) }
-{
-    let l = lesser(low(work, x, i), low(work, x, j));
-    let h = greater(high(work, x, i), high(work, x, j));
-    set_side(work, x, k, l, h);
+    set_box(work, d, k, |_, x| Side::point(coordinate(holes, d, h, x)));
 }
 
 // Node k's box is the smallest that holds the boxes of nodes i and j, which are other nodes.
@@ -173,19 +194,19 @@ pub fn set_around(work: &mut [u8], d: usize, k: usize, i: usize, j: usize)
     requires k_lt_j { (k < j) × (j < 2048) }
     ensures { Boxed work.old work.new d k (around (box_on work.old d i) (box_on work.old d j)) }
 {
-    for x in 0..d {
-        set_side_around(work, x, k, i, j);
-    }
+    set_box(work, d, k, |w, x| side_on(w, x, i).around(side_on(w, x, j)));
 }
 
-// The length of node k's side on axis x.
-fn extent(work: &[u8], x: usize, k: usize) -> usize
-    requires { SideIn work.now x k }
-    ensures { (result ≡ long (side_on work.now k x)) × (result < 65536) }
+// Makes node k's box the smallest that holds hole h too.
+pub fn set_beside(work: &mut [u8], holes: &[u8], d: usize, k: usize, h: usize)
+    requires node_on { NodeOn work.old d k }
+    requires hole_in { HoleIn holes.now d h }
+    ensures { Boxed work.old work.new d k (around (box_on work.old d k) (spot (hole_at d holes.now (2 * d * h)))) }
 {
-    let l = low(work, x, k);
-    let h = high(work, x, k);
-    if l < h { h - l } else { 0 }
+    set_box(work, d, k, |w, x| {
+        let c = coordinate(holes, d, h, x);
+        side_on(w, x, k).around(Side::point(c))
+    });
 }
 
 // The square of a number that is no larger than twice a coordinate.
@@ -196,16 +217,27 @@ pub fn squared(x: usize) -> usize
     x * x
 }
 
+// The sum of the squares of what `of` makes of each axis.
+fn sum_of_squares<F: Fn(usize) -> usize>(d: usize, of: F) -> usize
+    requires d_bound { d ≤ 3 }
+    requires callable { (x : _) → x < d → F.pre of x }
+    requires small { (x r : _) → x < d → F.post of x r → r < 131072 }
+    ensures is { (f : ℕ → ℕ) → ((x r : _) → x < d → F.post of x r → r ≡ f x) → result ≡ squares f d }
+    ensures bound { result < 51539607552 }
+{
+    let mut sum = 0;
+    for x in 0..d {
+        sum += squared(of(x));
+    }
+    sum
+}
+
 // G of node k's box.
 pub fn girth(work: &[u8], d: usize, k: usize) -> usize
     requires { NodeOn work.now d k }
     ensures { (result ≡ G (box_on work.now d k)) × (result < 51539607552) }
 {
-    let mut sum = 0;
-    for x in 0..d {
-        sum += squared(extent(work, x, k));
-    }
-    sum
+    sum_of_squares(d, |x| side_on(work, x, k).length())
 }
 
 // The longest side of node k's box.
@@ -215,33 +247,9 @@ pub fn longest_side(work: &[u8], d: usize, k: usize) -> usize
 {
     let mut most = 0;
     for x in 0..d {
-        most = greater(most, extent(work, x, k));
+        most = most.max(side_on(work, x, k).length());
     }
     most
-}
-
-// Twice the centre of node k's side on axis x.
-fn centre(work: &[u8], x: usize, k: usize) -> usize
-    requires { SideIn work.now x k }
-    ensures { (result ≡ twice_centre (side_on work.now k x)) × (result < 131072) }
-{
-    low(work, x, k) + high(work, x, k)
-}
-
-// How far two numbers are apart.
-fn apart(x: usize, y: usize) -> usize
-    ensures { result ≡ gap x y }
-{
-    if x < y { y - x } else { x - y }
-}
-
-// How far twice the centres of nodes j and k are apart on axis x.
-fn centres_apart(work: &[u8], x: usize, j: usize, k: usize) -> usize
-    requires side_in { SideIn work.now x j }
-    requires k_bound { k < 2048 }
-    ensures { (result ≡ gap_on twice_centre work.now j k x) × (result < 131072) }
-{
-    apart(centre(work, x, j), centre(work, x, k))
 }
 
 // D of the boxes of nodes j and k.
@@ -250,11 +258,12 @@ pub fn distance(work: &[u8], d: usize, j: usize, k: usize) -> usize
     requires k_bound { k < 2048 }
     ensures { (result ≡ D (box_on work.now d j) (box_on work.now d k)) × (result < 51539607552) }
 {
-    let mut sum = 0;
-    for x in 0..d {
-        sum += squared(centres_apart(work, x, j, k));
-    }
-    sum
+    sum_of_squares(
+        d,
+        |x| side_on(work, x, j)
+            .centre()
+            .abs_diff(side_on(work, x, k).centre()),
+    )
 }
 
 // How far the low ends of nodes j and k are apart on axis x.
@@ -263,7 +272,7 @@ pub fn lows_apart(work: &[u8], x: usize, j: usize, k: usize) -> usize
     requires k_bound { k < 2048 }
     ensures { (result ≡ gap_on low_end work.now j k x) × (result < 65536) }
 {
-    apart(low(work, x, j), low(work, x, k))
+    side_on(work, x, j).low.abs_diff(side_on(work, x, k).low)
 }
 
 // The squared distance of the low corners of the boxes of nodes j and k. Of two nodes of one hole each it is the squared distance of their holes,
@@ -273,11 +282,7 @@ pub fn corners_apart(work: &[u8], d: usize, j: usize, k: usize) -> usize
     requires k_bound { k < 2048 }
     ensures { (result ≡ distance² (corner (box_on work.now d j)) (corner (box_on work.now d k))) × (result < 51539607552) }
 {
-    let mut sum = 0;
-    for x in 0..d {
-        sum += squared(lows_apart(work, x, j, k));
-    }
-    sum
+    sum_of_squares(d, |x| lows_apart(work, x, j, k))
 }
 
 // x²·y, for x one of b and 2b + a, and y one of G and D.
@@ -294,10 +299,7 @@ fn wide_enough(a: usize, b: usize, size: usize, far: usize) -> bool
     requires size_bound { (size < 51539607552) × (far < 51539607552) }
     ensures { result ≡ (not (eqb far 0) && leb (square (2 * b + a) * size) (square b * far)) }
 {
-    if far == 0 {
-        return false;
-    }
-    weighed(2 * b + a, size) <= weighed(b, far)
+    far != 0 && weighed(2 * b + a, size) <= weighed(b, far)
 }
 
 // Whether nodes j and k are separated at the ratio a/b.
@@ -308,7 +310,7 @@ pub fn is_separated(work: &[u8], d: usize, a: usize, b: usize, j: usize, k: usiz
     ensures { result ≡ separated a b (box_on work.now d j) (box_on work.now d k) }
 {
     let far = distance(work, d, j, k);
-    let size = greater(girth(work, d, j), girth(work, d, k));
+    let size = girth(work, d, j).max(girth(work, d, k));
     wide_enough(a, b, size, far)
 }
 
@@ -319,30 +321,7 @@ pub fn reach(work: &[u8], d: usize, a: usize, b: usize, k: usize) -> usize
     ensures { (result ≡ reach a b (box_on work.now d k)) × (result < 562949953421312) }
 {
     let size = weighed(2 * b + a, girth(work, d, k));
-    let parts = squared(b);
-    greater(1, (size + (parts - 1)) / parts)
-}
-
-// Makes node k's side on axis x the smallest that holds c too.
-fn set_side_beside(work: &mut [u8], x: usize, k: usize, c: usize)
-    requires side_in { SideIn work.old x k }
-    requires c_bound { c < 65536 }
-    ensures { Sided work.old work.new x k (side_around (side_on work.old k x) (point c)) }
-{
-    let l = lesser(low(work, x, k), c);
-    let h = greater(high(work, x, k), c);
-    set_side(work, x, k, l, h);
-}
-
-// Makes node k's box the smallest that holds hole h too.
-pub fn set_beside(work: &mut [u8], holes: &[u8], d: usize, k: usize, h: usize)
-    requires node_on { NodeOn work.old d k }
-    requires hole_in { HoleIn holes.now d h }
-    ensures { Boxed work.old work.new d k (around (box_on work.old d k) (spot (hole_at d holes.now (2 * d * h)))) }
-{
-    for x in 0..d {
-        set_side_beside(work, x, k, coordinate(holes, d, h, x));
-    }
+    size.div_ceil(squared(b)).max(1)
 }
 
 // The axis on which node k's box is longest, the first of them on a tie.
@@ -352,7 +331,7 @@ pub fn cut_axis(work: &[u8], d: usize, k: usize) -> usize
 {
     let mut best = 0;
     for x in 1..d {
-        if extent(work, best, k) < extent(work, x, k) {
+        if side_on(work, best, k).length() < side_on(work, x, k).length() {
             best = x;
         }
     }
@@ -366,5 +345,5 @@ pub fn goes_first(work: &[u8], holes: &[u8], d: usize, k: usize, x: usize, h: us
     requires x_lt_d { x < d }
     ensures { result ≡ leb (2 * get_or (hole_at d holes.now (2 * d * h)) x 0) ((side_on work.now k x).low + (side_on work.now k x).high) }
 {
-    2 * coordinate(holes, d, h, x) <= centre(work, x, k)
+    2 * coordinate(holes, d, h, x) <= side_on(work, x, k).centre()
 }

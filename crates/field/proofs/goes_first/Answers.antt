@@ -13,13 +13,5 @@ use Rattle.field.proofs.goes_first.Goals as goal
 test : (s : List ℕ) (d o x c m n : ℕ) → x < d → Read 2 s (o + 2 * x) c → m ≡ n → leb (2 * c) m ≡ leb (2 * get_or (hole_at d s o) x 0) n
 test s d o x c m n l r e = rw (coordinate_read d s o x l, ← r.is, e)
 
-ruleset all = (test, rules)
-
-pub coordinate-requires : goal.coordinate-requires
-coordinate-requires c = search all
-
-pub centre-requires : goal.centre-requires
-centre-requires c = search all
-
 pub returns : goal.returns
-returns c = search all
+returns c = search (test, rules)

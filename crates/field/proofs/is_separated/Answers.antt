@@ -14,22 +14,5 @@ apart : (a b : ℕ) (A B : Box) (far g h size : ℕ) (t : Bool) → far ≡ D A 
 unfolding separated
 apart a b A B far g h size t e f i j k = rw (← e, ← f, ← i, ← j) k
 
-ruleset all = (apart, rules)
-
-pub distance-far-requires : goal.distance-far-requires
-distance-far-requires c = search all
-
-pub girth-requires : goal.girth-requires
-girth-requires c = search all
-
-pub girth-requires-2 : goal.girth-requires-2
-girth-requires-2 c = search all
-
-pub greater-size-requires : goal.greater-size-requires
-greater-size-requires c = search all
-
-pub wide_enough-requires : goal.wide_enough-requires
-wide_enough-requires c = search all
-
 pub returns : goal.returns
-returns c = search all
+returns c = search (apart, rules)

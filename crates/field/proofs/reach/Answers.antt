@@ -1,9 +1,11 @@
 -- The quotient, rounded up, of numbers that are small: the ratio is. Assumes nothing.
 use mathlib.Core.Path.{◌≡◌}
 use Prim.Native.Nat.{ℕ, ◌+◌, ◌*◌, ◌-◌, ◌/◌, ◌≤◌, ◌<◌, max}
-use native.Mathlib.Nat.{mul-le-mul, div-le_self}
+use native.Mathlib.Nat.{mul-le-mul, div-le_self, le-div_iff_mul-le, div-lt_iff_lt-mul}
 use native.Mathlib.Omega.{arith}
 use borrow.Author.Rules.{rules}
+use Rattle.std.specs.Int.{div_ceil}
+use Rattle.std.proofs.lemmas.Grind.{div_ceil_times}
 use Rattle.paper.specs.Field.{Ratio, square}
 use Rattle.paper.specs.Tree.{Box}
 use Rattle.paper.specs.Separation.{G}
@@ -12,44 +14,32 @@ use Rattle.field.specs.Sides.{Squared}
 use Rattle.field.proofs.Reaching.{some_square}
 use Rattle.field.proofs.reach.Goals as goal
 
-some_parts : {a b q : ℕ} → Ratio a b → Squared b q → 1 ≤ q
+some_parts : {a b q : ℕ} → Ratio a b → Squared b q → 0 < q
 some_parts r s = omega (arith, some_square r, s.is)
 
-few_parts : {a b q : ℕ} → Ratio a b → Squared b q → q ≤ 64
-few_parts r s = omega (arith, mul-le-mul r.b_high r.b_high, s.is)
+up : (x q : ℕ) → 0 < q → div_ceil x q ≡ (x + (q - 1)) / q
+up x q p =
+    let t = div_ceil_times x q p in
+    let low = (le-div_iff_mul-le {k = q} {x = div_ceil x q} {y = x + (q - 1)} p).1 (omega (arith, t.1)) in
+    let high = (div-lt_iff_lt-mul {k = q} {x = x + (q - 1)} {y = div_ceil x q + 1} p).1 (omega (arith, t.0)) in
+    omega (arith, low, high)
 
-size_small : {a b g z : ℕ} → Ratio a b → g < 51_539_607_552 → z ≡ square (2 * b + a) * g → z ≤ 329_853_488_332_800
-size_small {a} {b} r l e =
-    let m : 2 * b + a ≤ 80 = omega (arith, r.a_high, r.b_high) in
-    omega (arith, mul-le-mul (mul-le-mul m m) l)
-
-sum_fits : {a b g z q : ℕ} → Ratio a b → g < 51_539_607_552 → z ≡ square (2 * b + a) * g → Squared b q → z + (q - 1) < 18_446_744_073_709_551_616
-sum_fits r l e s = omega (arith, size_small r l e, few_parts r s)
-
-reach-found : (a b : ℕ) (B : Box) {q g z r : ℕ} → g ≡ G B → z ≡ square (2 * b + a) * g → Squared b q → r ≡ max 1 ((z + (q - 1)) / q) → r ≡ reach a b B
+found : {a b g q z r : ℕ} (B : Box) → Ratio a b → g ≡ G B → z ≡ square (2 * b + a) * g → Squared b q → r ≡ max (div_ceil z q) 1 → r ≡ reach a b B
 unfolding reach
-reach-found a b B e f s h = rw (← e, ← f, ← s.is) h
+found {q = q} {z = z} B t e f s h = rw (← e, ← f, ← s.is) (omega (arith, h, up z q (some_parts t s)))
 
-reach_small : {a b g q z r : ℕ} → Ratio a b → g < 51_539_607_552 → z ≡ square (2 * b + a) * g → Squared b q → r ≡ max 1 ((z + (q - 1)) / q)
-    → r < 562_949_953_421_312
-reach_small {q = q} {z = z} r l e s h = omega (arith, size_small r l e, few_parts r s, div-le_self (z + (q - 1)) q)
+small : {a b g z r : ℕ} (q : ℕ) → Ratio a b → g < 51_539_607_552 → z ≡ square (2 * b + a) * g → r ≡ max (div_ceil z q) 1 → r < 562_949_953_421_312
+small {a} {b} {z = z} q t l e h =
+    let m : 2 * b + a ≤ 80 = omega (arith, t.a_high, t.b_high) in
+    omega (arith, h, e, mul-le-mul (mul-le-mul m m) l, div-le_self z q)
 
-ruleset all = (some_parts, sum_fits, reach-found, reach_small, rules)
-
-pub girth-requires : goal.girth-requires
-girth-requires c = search all
-
-pub weighed-size-requires : goal.weighed-size-requires
-weighed-size-requires c = search all
-
-pub squared-parts-requires : goal.squared-parts-requires
-squared-parts-requires c = search all
-
-pub greater-requires : goal.greater-requires
-greater-requires c = search all
+pub div_ceil-requires : goal.div_ceil-requires
+div_ceil-requires c = search (some_parts, rules)
 
 pub returns : goal.returns
-returns c = search all
-
-pub overflow_add-size : goal.overflow_add-size
-overflow_add-size c = search all
+returns c =
+    let g = c.girth.ensures in
+    let z = c.weighed-size.ensures in (
+      found _ c.requires.ratio g.0 z c.squared.ensures (search rules),
+      small c.squared.result c.requires.ratio g.1 z (search rules),
+    )

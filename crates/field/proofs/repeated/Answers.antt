@@ -5,24 +5,6 @@ use Rattle.field.proofs.repeated.Goals as goal
 
 ruleset all = (hole_in, none_before_start, first_repeat, no_repeats, chained_none, rules)
 
-pub clear-requires : goal.clear-requires
-clear-requires c = search all
-
-pub loop-i-init : goal.loop-i-init
-loop-i-init c = search all
-
-pub bucket-b-requires : goal.bucket-b-requires
-bucket-b-requires c = search all
-
-pub is_repeat-requires : goal.is_repeat-requires
-is_repeat-requires c = search all
-
-pub returns-then-is_repeat : goal.returns-then-is_repeat
-returns-then-is_repeat c = search all
-
-pub push-requires : goal.push-requires
-push-requires c = search all
-
 pub loop-i-preserved : goal.loop-i-preserved
 loop-i-preserved c =
     let inv = c.loop-i.invariant in (
@@ -30,6 +12,9 @@ loop-i-preserved c =
       none_before_more _ _ _ inv.1 c.loop-i-test.true c.is_repeat.ensures c.if-is_repeat.false,
       chained_more (search rules) c.loop-i-test.true inv.2 c.bucket-b.ensures c.push.ensures,
     )
+
+pub returns-then-is_repeat : goal.returns-then-is_repeat
+returns-then-is_repeat c = search all
 
 pub returns : goal.returns
 returns c = search all

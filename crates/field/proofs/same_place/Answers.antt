@@ -1,23 +1,17 @@
-use borrow.Author.Rules.{rules}
-use Rattle.field.proofs.Places.{alike_none, alike_more, alike_all, unlike}
+use mathlib.Core.Path.{refl}
+use Prim.Native.Nat.{◌*◌}
+use borrow.Author.Tests.{tests}
+use Rattle.std.proofs.Common.{rules}
+use Rattle.std.proofs.lemmas.Iterator.{cases_from_all, YieldsList-from_range}
+use Rattle.field.proofs.Places.{Alike, alike}
 use Rattle.field.proofs.same_place.Goals as goal
 
-ruleset all = (alike_none, alike_more, alike_all, unlike, rules)
-
-pub loop-x-init : goal.loop-x-init
-loop-x-init c = search all
-
-pub coordinate-requires : goal.coordinate-requires
-coordinate-requires c = search all
-
-pub coordinate-requires-in-loop-x : goal.coordinate-requires-in-loop-x
-coordinate-requires-in-loop-x c = search all
-
-pub returns-then-coordinate : goal.returns-then-coordinate
-returns-then-coordinate c = search all
-
-pub loop-x-preserved : goal.loop-x-preserved
-loop-x-preserved c = search all
-
 pub returns : goal.returns
-returns c = search all
+returns c =
+    let holes = c.args.holes.now in
+    let d = c.args.d in
+    let o = 2 * d * c.args.i in
+    let p = 2 * d * c.args.j in
+    alike holes o p d _
+    (cases_from_all _ _ _ (Alike holes o p) (λ x. Alike holes o p x → ⊥) c.all.ensures.ran (YieldsList-from_range 0 d d refl (search rules))
+    (λ x q k. search (rules, tests)) (λ x q k. search (rules, tests)))

@@ -1,47 +1,20 @@
-use mathlib.Core.Path.{◌≡◌, refl, ◌∙◌, subst}
-use mathlib.Core.List.{List}
-use Prim.Native.Nat.{ℕ, ◌≤◌, ◌<◌, ◌+◌, ◌*◌}
-use native.Mathlib.Omega.{arith}
-use borrow.Author.Rules.{rules}
-use Rattle.words.specs.Words.{Read}
-use Rattle.paper.specs.Field.{hole_at}
-use Rattle.paper.specs.Tree.{Side, point, spot, around}
-use Rattle.field.specs.Boxes.{HoleIn, side_on, box_on, Boxed}
-use Rattle.field.specs.Sides.{side_around, Sided}
-use Rattle.field.proofs.Axis.{hole-none, box_none, beside_more, boxed-none, sided_left, boxed_more}
-use Rattle.field.proofs.set_beside.Invariants.{Beside}
+use Prim.Native.Nat.{ℕ, ◌+◌, ◌*◌}
+use mathlib.Core.Path.{◌≡◌, ap, ◌∙◌}
+use Rattle.std.proofs.Common.{rules}
+use Rattle.words.specs.Words.{be}
+use Rattle.paper.specs.Lists.{below}
+use Rattle.paper.specs.Tree.{Side, point}
+use Rattle.field.specs.Boxes.{side_on, box_on}
+use Rattle.field.specs.Sides.{side_around}
+use Rattle.field.proofs.Axis.{spot_of, around_of}
 use Rattle.field.proofs.set_beside.Goals as goal
 
-start : (w s : List ℕ) (k o : ℕ) → Beside s k o w w 0
-unfolding around
-start w s k o = record { boxed = rw (box_none w k, hole-none s o) (boxed-none w k); ahead = λ y l. refl }
-
-turn : (old mid new s : List ℕ) (d i x k o c : ℕ) → HoleIn s d i → x < d → Beside s k o old mid x → Read 2 s (o + 2 * x) c
-    → Sided mid new x k (side_around (side_on mid k x) (point c)) → Beside s k o old new (x + 1)
-turn old mid new s d i x k o c h l p r q =
-    let few : x < 3 = omega (arith, h.axes.few) in
-    let set = subst (λ (t : Side). Sided mid new x k (side_around t (point c))) (p.ahead x (omega arith)) q in
-    record {
-      boxed = rw (beside_more old x k s o, ← r.is) (boxed_more p.boxed set few);
-      ahead = λ y m. sided_left q few y (omega arith) ∙ p.ahead y (omega arith);
-    }
-
-done : (old new s : List ℕ) (d x k o : ℕ) → Beside s k o old new x → x ≤ d → d ≤ x → Boxed old new d k (around (box_on old d k) (spot (hole_at d s o)))
-done old new s d x k o p l m = let e : x ≡ d = omega arith in rw e at p.boxed
-
-ruleset all = (start, turn, done, rules)
-
-pub loop-x-init : goal.loop-x-init
-loop-x-init c = search all
-
-pub coordinate-requires : goal.coordinate-requires
-coordinate-requires c = search all
-
-pub set_side_beside-requires : goal.set_side_beside-requires
-set_side_beside-requires c = search all
-
-pub loop-x-preserved : goal.loop-x-preserved
-loop-x-preserved c = search all
-
 pub returns : goal.returns
-returns c = search all
+unfolding box_on
+returns c =
+    let args = c.args in
+    let one : ℕ → Side = side_on args.work.now args.k in
+    let two : ℕ → Side = λ x. point (be 2 args.holes.now (2 * args.d * args.h + 2 * x)) in
+    rw (spot_of, around_of one two (below args.d)) (c.set_box.ensures (λ x. side_around (one x) (two x)) (λ w x s l a p.
+    let found : s ≡ side_around (side_on w.now args.k x) (two x) = search rules in
+    found ∙ ap (λ t. side_around t (two x)) (a.sides x (search rules))))
