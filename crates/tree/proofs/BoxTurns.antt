@@ -1,4 +1,5 @@
 -- The box of a stretch, hole by hole: setting a node's box leaves ORDER, and the box of one hole more is the one around both. Assumes nothing.
+use Rattle.std.proofs.lemmas.Grind.{common_steps}
 use mathlib.Core.Path.{◌≡◌, refl, sym, ap, ◌∙◌}
 use mathlib.Core.List.{List, [], ◌∷◌}
 use Prim.Native.Nat.{ℕ, ◌+◌, ◌*◌, ◌<◌, ◌≤◌}
@@ -25,14 +26,7 @@ module _ {old new : List ℕ} {d k : ℕ} {B : Box} (p : Boxed old new d k B) (r
   boxed-stretch lo m l = run-same new old (2_048 * ORDER + lo) m (λ j a b. (boxed_kept p row).rest j (omega arith))
 
   pub boxed_on : {hs : List ℕ} {n lo m : ℕ} → StretchOn old hs d n lo m → StretchOn new hs d n lo m
-  boxed_on {lo} {m} s =
-      record {
-        grid = rw p.len s.grid;
-        holes = s.holes;
-        some = s.some;
-        end = s.end;
-        each = λ i l. rw (boxed-cell p ORDER (lo + i) (omega arith) (omega (arith, s.end, s.holes.few))) (s.each i l);
-      }
+  boxed_on s = grind (arith, common_steps)
 
 boxed_again : {a b c : List ℕ} {d k : ℕ} {A B : Box} → Boxed a b d k A → Boxed b c d k B → Boxed a c d k B
 boxed_again p q = record { len = q.len ∙ p.len; box = q.box; rest = λ i h. q.rest i h ∙ p.rest i h }
@@ -95,10 +89,4 @@ module _ {hs old mid : List ℕ} {d n lo m k : ℕ} (s : StretchOn old hs d n lo
   part_ready = record { on = boxed_on p row s; row = row; box = rw same-stretch p.box }
 
   pub cut_both : {new : List ℕ} {r : ℕ} → Parted (holes_at d hs 0 n) lo m mid new r → CutInTwo (holes_at d hs 0 n) lo m old new r
-  cut_both q =
-      record {
-        len = q.len ∙ p.len;
-        size = rw same-stretch at q.size;
-        parts = rw same-stretch at q.parts;
-        rest = λ i a b l. q.rest i a b ∙ (boxed_kept p row).rest i (omega arith);
-      }
+  cut_both q = grind (arith, common_steps, boxed_kept, same-stretch)

@@ -1,12 +1,10 @@
 pub mod Views
 pub mod LoadTurns
-pub mod Loaded
 pub mod UnderLength
 pub mod Standing
 pub mod Totals
 pub mod SumTurns
 pub mod Summed
-pub mod Sets
 pub mod Places
 pub mod Stretches
 pub mod RankTurns

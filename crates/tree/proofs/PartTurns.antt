@@ -1,27 +1,28 @@
 -- Cutting a stretch in two, hole by hole. What goes first is put at a place that is already read, so the holes still to come are as they were;
 -- the boxes are left, so each hole is tested as the stretch's cut says. Assumes nothing.
+use Rattle.std.proofs.lemmas.Grind.{common_steps}
 use mathlib.Core.Path.{◌≡◌, refl, sym, ap, ap₂, ◌∙◌}
 use mathlib.Core.Bool.{Bool, true, false, not}
 use mathlib.Core.List.{List, [], ◌∷◌, ◌++◌, append-nil}
 use Prim.Native.Nat.{ℕ, ◌+◌, ◌-◌, ◌*◌, ◌<◌, ◌≤◌}
 use native.Mathlib.Nat.{zero-add}
 use native.Mathlib.Omega.{arith}
-use lib.ListN.{length}
-use Rattle.words.specs.Area.{word, run}
+use lib.Dec.{leb}
+use lib.ListN.{length, get_or}
+use Rattle.words.specs.Area.{run}
 use Rattle.words.proofs.AreaLaws.{length_run, run-same, run-append, run_more, run_save_out, run_save_end}
 use Rattle.slate.specs.Columns.{ORDER, SCRATCH, LOW, HIGH}
 use Rattle.slate.specs.Slate.{cell, Held, Set}
 use Rattle.slate.proofs.Frames.{set-column, set_more}
 use Rattle.paper.specs.Lists.{keep}
-use Rattle.paper.specs.Field.{holes_at}
+use Rattle.paper.specs.Field.{hole_at, holes_at}
 use Rattle.paper.specs.Tree.{first, axis}
 use Rattle.theory.proofs.EachLaws.{keep_append}
 use Rattle.theory.proofs.Reading.{hole_read}
-use Rattle.field.specs.Boxes.{box_on}
+use Rattle.field.specs.Boxes.{box_on, side_on}
 use Rattle.field.proofs.Boxes.{box_side}
-use Rattle.field.proofs.Places.{hole_in}
 use Rattle.tree.specs.Planting.{stretch, PartReady, Parted}
-use Rattle.tree.specs.Parting.{goes, Placing, HolePlaced, Sifted, TakenBack}
+use Rattle.tree.specs.Parting.{Sifted, TakenBack}
 
 -- ---- what is kept of one hole more
 
@@ -86,53 +87,35 @@ pub sift_none : {t : ℕ → Bool} {lo : ℕ} {w : List ℕ} → Sifted t lo 0 w
 unfolding run
 sift_none = record { len = refl; most = omega arith; front = refl; back = refl; rest = λ j p q. refl }
 
-pub sift_done : {t : ℕ → Bool} {lo i m a : ℕ} {old w : List ℕ} → Sifted t lo i old w a → i ≤ m → m ≤ i → Sifted t lo m old w a
-sift_done {i} {m} s p q = let e : m ≡ i = omega arith in rw e s
-
 module _ {hs old : List ℕ} {d n lo m k x : ℕ} (ready : PartReady old hs d n lo m k) (ax : (x ≡ axis (box_on old d k)) × (x < d)) where
   abbrev cut : ℕ → Bool
   cut = first (holes_at d hs 0 n) (stretch old lo m)
 
-  test_is : (h : ℕ) → h < n → goes old hs d k x h ≡ cut h
-  unfolding goes first
-  test_is h l =
-      rw (← ready.box, ← ax.0, box_side old d k x ax.1, rw zero-add at (hole_read d hs 0 n h l))
+  -- the stretch's cut tests a hole by the box of node k
+  test_is : (h : ℕ) → h < n → leb (2 * get_or (hole_at d hs (2 * d * h)) x 0) ((side_on old k x).low + (side_on old k x).high) ≡ cut h
+  unfolding first
+  test_is h l = rw (← ready.box, ← ax.0, box_side old d k x ax.1, rw zero-add at (hole_read d hs 0 n h l))
 
-  module _ {i a : ℕ} {w : List ℕ} (s : Sifted cut lo i old w a) (b : i < m) where
+  module _ {i a h : ℕ} {w : List ℕ} (s : Sifted cut lo i old w a) (b : i < m) (l : Held w ORDER (lo + i) h) where
     few : lo + m ≤ 1_024
     few = omega (arith, ready.on.end, ready.on.holes.few)
 
-    hole-below : cell w ORDER (lo + i) < n
-    hole-below = let f = few in rw (next_cell s (omega arith)) (ready.on.each i b)
+    hole-below : h < n
+    hole-below = let f = few in rw (l.is, next_cell s (omega arith)) (ready.on.each i b)
 
-    test-left : (h : ℕ) → goes w hs d k x h ≡ goes old hs d k x h
-    unfolding goes
-    test-left h =
-        let f = few in
-        rw (s.rest (2_048 * (LOW + 2 * x) + k) (omega arith) (omega arith), s.rest (2_048 * (HIGH + 2 * x) + k) (omega arith) (omega arith))
-
-    pub placing : Placing w hs d k x (lo + i) (lo + a) (i - a)
-    placing =
-        let f = few in
-        let most = s.most in
-        record {
-          node = record { grid = rw s.len ready.on.grid; axes = ready.on.holes.axes; row = ready.row };
-          axis = ax.1;
-          hole = hole_in ready.on.holes hole-below;
-          row = omega arith;
-          first = omega arith;
-          second = omega arith;
-        }
-
-    module _ {new : List ℕ} {r : Bool} (p : HolePlaced (goes w hs d k x) (lo + i) (lo + a) (i - a) w new r) where
+    module _ {r : Bool} (e : r ≡ leb (2 * get_or (hole_at d hs (2 * d * h)) x 0) ((side_on w k x).low + (side_on w k x).high)) where
       tested : cut (cell w ORDER (lo + i)) ≡ r
-      tested = sym (p.test ∙ test-left (cell w ORDER (lo + i)) ∙ test_is (cell w ORDER (lo + i)) hole-below)
+      tested =
+          let f = few in
+          let low = s.rest (2_048 * (LOW + 2 * x) + k) (omega arith) (omega arith) in
+          let high = s.rest (2_048 * (HIGH + 2 * x) + k) (omega arith) (omega arith) in
+          rw (← l.is, e, low, high) (sym (test_is h hole-below))
 
-      pub goes_first : r ≡ true → Sifted cut lo (i + 1) old new (a + 1)
-      goes_first e = let f = few in sift-yes s (omega arith) (tested ∙ e) (p.first e)
+      pub goes_first : {new : List ℕ} → r ≡ true → Set w new ORDER (lo + a) h → Sifted cut lo (i + 1) old new (a + 1)
+      goes_first y v = let f = few in sift-yes s (omega arith) (tested ∙ y) (rw l.is at v)
 
-      pub goes-second : r ≡ false → Sifted cut lo (i + 1) old new a
-      goes-second e = let f = few in sift-no s (omega arith) (tested ∙ e) (p.second e)
+      pub goes-second : {new : List ℕ} → r ≡ false → Set w new SCRATCH (i - a) h → Sifted cut lo (i + 1) old new a
+      goes-second y v = let f = few in sift-no s (omega arith) (tested ∙ y) (rw l.is at v)
 
 -- ---- the second pass
 
@@ -140,18 +123,9 @@ pub take_none : {lo : ℕ} {w : List ℕ} → TakenBack lo 0 w w
 unfolding run
 take_none = record { len = refl; there = refl; rest = λ j p. refl }
 
-pub take_done : {lo i m : ℕ} {old w : List ℕ} → TakenBack lo i old w → i ≤ m → m ≤ i → TakenBack lo m old w
-take_done {i} {m} p a b = let e : m ≡ i = omega arith in rw e p
-
 pub take_turn : {lo i m h : ℕ} {old w new : List ℕ} → lo + m ≤ 2_048 → i < m → TakenBack lo i old w → Held w SCRATCH i h
     → Set w new ORDER (lo + i) h → TakenBack lo (i + 1) old new
-take_turn {lo} {i} {h} {old} f b p l v =
-    let e : word old (2_048 * SCRATCH + i) ≡ h = sym (l.is ∙ p.rest (2_048 * SCRATCH + i) (omega arith)) in
-    record {
-      len = v.len ∙ p.len;
-      there = rw (stretch-set lo i v, p.there, run_more old (2_048 * SCRATCH) i, e);
-      rest = λ j q. v.rest j (λ z. q (omega arith) (omega arith)) ∙ p.rest j (λ x y. q x (omega arith));
-    }
+take_turn {lo} {i} {h} {old} f b p l v = grind (arith, common_steps, stretch-set, run_more)
 
 -- ---- both
 

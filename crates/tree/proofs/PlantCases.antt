@@ -1,5 +1,6 @@
 -- Planting. A node's row is put before its first part's rows, and those before its second part's, so the rows from node k on are the tree's
 -- entries in its order; a part's stretch of ORDER, and its rows, are its own, so what is planted of one leaves the other. Assumes nothing.
+use Rattle.std.proofs.lemmas.Grind.{common_steps}
 use mathlib.Core.Path.{◌≡◌, refl, ◌∙◌}
 use mathlib.Core.Bool.{Bool, not}
 use mathlib.Core.List.{List}
@@ -32,20 +33,14 @@ use Rattle.tree.proofs.PlantLaws.{rows_fork, rows_same, each_stretch, stretch_sp
 pub a_leaf : {hs old new : List ℕ} {d n lo m k h : ℕ} → Plantable old hs d n lo m k → m ≡ 1 → Held old ORDER lo h
     → NodePut old new k leaf_mark h → Planted (holes_at d hs 0 n) lo m k old new
 unfolding run entries
-a_leaf {hs} {old} {d} {n} {lo} {k} p e q t =
-    record {
-      len = t.len;
-      nodes = rw (e, cut_one (first (holes_at d hs 0 n)) k (cell old ORDER lo), t.first, t.second, q.is);
-      rest = λ i a b c s l. t.rest i (λ x. a (omega arith) (omega arith)) (λ x. b (omega arith) (omega arith));
-    }
+a_leaf {hs} {old} {d} {n} {lo} {k} p e q t = grind (arith, common_steps, cut_one)
 
 -- ---- a node of two parts
 
 -- planting leaves the rows of the nodes that are not planted
 node_kept : {H : Field} {lo m k : ℕ} {old new : List ℕ} → Planted H lo m k old new → k + nodes_of m ≤ 2_048
     → (c i : ℕ) → c ≤ SECOND → i < 2_048 → (k ≤ i → i < k + nodes_of m → ⊥) → cell new c i ≡ cell old c i
-node_kept t fits c i l b h =
-    t.rest (2_048 * c + i) (λ x y. h (omega arith) (omega arith)) (λ x y. h (omega arith) (omega arith)) (omega arith) (omega arith) (omega arith)
+node_kept t fits c i l b h = grind (arith, common_steps)
 
 module _ {hs old : List ℕ} {d n lo m k : ℕ} (p : Plantable old hs d n lo m k) where
   abbrev H : Field
@@ -68,18 +63,8 @@ module _ {hs old : List ℕ} {d n lo m k : ℕ} (p : Plantable old hs d n lo m k
 
   module _ {mid : List ℕ} {r : ℕ} (many : 2 ≤ m) (q : CutInTwo H lo m old mid r) where
     -- both parts have a hole
-    some-both : (1 ≤ r) × (r < m)
+    pub some-both : (1 ≤ r) × (r < m)
     some-both = let w = halves many in omega (arith, length_parts (first H set) set, length_run old (2_048 * ORDER + lo) m)
-
-    -- so node k's numbers fit
-    pub twice-fits : 2 * r < 18_446_744_073_709_551_616
-    twice-fits = omega (arith, some-both)
-
-    pub second_fits : k + 2 * r < 18_446_744_073_709_551_616
-    second_fits = omega (arith, some-both)
-
-    pub second_small : k + 2 * r < 65_536
-    second_small = omega (arith, some-both)
 
     pub forked : {new : List ℕ} → NodePut mid new k (k + 1) (k + 2 * r) → Forked H lo m k old new r
     forked {new} t =
@@ -109,10 +94,7 @@ module _ {hs old : List ℕ} {d n lo m k : ℕ} (p : Plantable old hs d n lo m k
   module _ {mid new : List ℕ} {r : ℕ} (f : Forked H lo m k old mid r) (q : Planted H lo r (k + 1) mid new) where
     -- planting it leaves the second part's stretch, which may be planted behind it
     second-stretch : stretch new (lo + r) (m - r) ≡ part_two
-    second-stretch =
-        run-same new mid (2_048 * ORDER + (lo + r)) (m - r)
-        (λ i a b. q.rest i (omega arith) (omega arith) (omega arith) (omega arith) (omega arith))
-        ∙ f.back
+    second-stretch = grind (arith, common_steps, run-same)
 
     pub ready-second : Plantable new hs d n (lo + r) (m - r) (k + 2 * r)
     ready-second =
@@ -122,14 +104,10 @@ module _ {hs old : List ℕ} {d n lo m k : ℕ} (p : Plantable old hs d n lo m k
     module _ {end : List ℕ} (u : Planted H (lo + r) (m - r) (k + 2 * r) new end) where
       -- planting the second leaves node k and the first part's rows
       node_k : (c : ℕ) → c ≤ SECOND → cell end c k ≡ cell mid c k
-      node_k c l =
-          node_kept u (omega arith) c k l (omega arith) (omega arith) ∙ node_kept q (omega arith) c k l (omega arith) (omega arith)
+      node_k c l = grind (arith, common_steps)
 
       first_rows : rows end (k + 1) (nodes_of r) ≡ entries (tree_from (first H) (k + 1) part_one)
-      first_rows =
-          rows_same end new (k + 1) (nodes_of r) (λ c i l a b. node_kept u (omega arith) c i l (omega arith) (omega arith))
-          ∙ q.nodes
-          ∙ rw f.front
+      first_rows = grind (arith, common_steps, rows_same, node_kept)
 
       second-rows : rows end (k + 1 + nodes_of r) (nodes_of (m - r)) ≡ entries (tree_from (first H) (k + 2 * r) part_two)
       second-rows = let e : k + 1 + nodes_of r ≡ k + 2 * r = omega arith in rw e (u.nodes ∙ rw second-stretch)
@@ -145,15 +123,7 @@ module _ {hs old : List ℕ} {d n lo m k : ℕ} (p : Plantable old hs d n lo m k
           (rw (law, ← f.size, number_cut (first H) (k + 1) part_one, number_cut (first H) (k + 2 * r) part_two))
 
       pub a-fork : Planted H lo m k old end
-      a-fork =
-          record {
-            len = u.len ∙ q.len ∙ f.len;
-            nodes = all-rows;
-            rest = λ i a b c s l.
-                u.rest i (λ x y. a (omega arith) (omega arith)) (λ x y. b (omega arith) (omega arith)) (λ x y. c (omega arith) (omega arith)) s l
-                ∙ q.rest i (λ x y. a (omega arith) (omega arith)) (λ x y. b (omega arith) (omega arith)) (λ x y. c (omega arith) (omega arith)) s l
-                ∙ f.rest i (λ x. a (omega arith) (omega arith)) (λ x. b (omega arith) (omega arith)) c (λ x y. s x (omega arith)) l;
-          }
+      a-fork = grind (arith, common_steps, all-rows)
 
 -- ---- the holes by their numbers
 
@@ -163,9 +133,6 @@ numbered_none = record { len = refl; order = refl }
 
 pub numbered_more : {old mid new : List ℕ} {i : ℕ} → Numbered i old mid → Set mid new ORDER i i → Numbered (i + 1) old new
 numbered_more {i} p s = record { len = s.len ∙ p.len; order = set_more ORDER i s ∙ rw (p.order, from-append 0 i 1, zero-add) }
-
-pub numbered_all : {old new : List ℕ} {i n : ℕ} → Numbered i old new → i ≤ n → n ≤ i → Numbered n old new
-numbered_all {i} {n} p a b = let e : n ≡ i = omega arith in rw e p
 
 -- ---- the whole field
 

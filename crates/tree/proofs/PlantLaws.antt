@@ -1,5 +1,6 @@
 -- Rows of nodes and stretches of ORDER. Both are runs of cells, so those of two parts are those of the one, then those of the other, and
 -- words that are kept keep them. Assumes nothing.
+use borrow.Author.Rules.{rules}
 use mathlib.Core.Path.{◌≡◌, refl, sym, subst, ◌∙◌}
 use mathlib.Core.List.{List, ◌∷◌, ◌++◌, map-append}
 use Prim.Native.Nat.{ℕ, zero, suc, ◌+◌, ◌*◌, ◌-◌, ◌≤◌, ◌<◌}
@@ -10,7 +11,6 @@ use Rattle.words.specs.Area.{word, run}
 use Rattle.words.proofs.AreaLaws.{length_run, run-append, get_d_run}
 use Rattle.slate.specs.Columns.{FIRST, SECOND, ORDER}
 use Rattle.slate.specs.Slate.{cell, Grid}
-use Rattle.paper.specs.Lists.{from}
 use Rattle.paper.proofs.ListLaws.{from-append}
 use Rattle.paper.specs.Field.{holes_at}
 use Rattle.paper.specs.Record.{nodes_of}
@@ -26,10 +26,7 @@ use Rattle.tree.proofs.Views.{mapped_same}
 -- a node, then the rows of its two parts
 pub rows_fork : (w : List ℕ) (k p q : ℕ)
     → rows w k (suc (p + q)) ≡ (cell w FIRST k, cell w SECOND k) ∷ rows w (k + 1) p ++ rows w (k + 1 + p) q
-rows_fork w k p q =
-    let e : suc k ≡ k + 1 = omega arith in
-    let row : ℕ → ℕ × ℕ = λ j. (cell w FIRST j, cell w SECOND j) in
-    rw (e, from-append (k + 1) p q, map-append row (from (k + 1) p) (from (k + 1 + p) q))
+rows_fork w k p q = search (rules, arith, from-append, map-append)
 
 pub rows_same : (new old : List ℕ) (k p : ℕ) → ((c i : ℕ) → c ≤ SECOND → k ≤ i → i < k + p → cell new c i ≡ cell old c i)
     → rows new k p ≡ rows old k p

@@ -1,5 +1,6 @@
 -- Ranking, node by node. The holes under a node are a stretch of those under the root: a node's two parts share its stretch, and a leaf's is
 -- its hole. Each node is named by a lower one, so its stretch is known when its turn comes. Assumes nothing.
+use Rattle.std.proofs.lemmas.Grind.{common_steps}
 use mathlib.Core.Path.{◌≡◌, refl, sym, ap, ◌∙◌}
 use mathlib.Core.Logic.{◌≢◌, ⊎_elim}
 use mathlib.Core.List.{List, ◌++◌}
@@ -13,7 +14,6 @@ use borrow.Author.Tests.{eqb-true, eqb-false}
 use Rattle.words.proofs.AreaLaws.{length_run, get_d_run}
 use Rattle.slate.specs.Columns.{FIRST, SECOND, HOLES, FROM, ORDER, MARKS}
 use Rattle.slate.specs.Slate.{cell, column, Grid, Kept}
-use Rattle.slate.proofs.Frames.{kept_cell}
 use Rattle.paper.specs.Record.{View}
 use Rattle.paper.specs.Rules.{hole_count, node_count, node, Leaf, Names, NodeRule, under_node}
 use Rattle.paper.proofs.ListLaws.{cases}
@@ -22,9 +22,8 @@ use Rattle.theory.proofs.Grown.{under_leaf, under_fork, some_under, under-below}
 use Rattle.theory.proofs.Foreign.{under_at_most}
 use Rattle.tree.specs.Standing.{tree_on, Stands}
 use Rattle.tree.specs.Steps.{Counted}
-use Rattle.tree.specs.Ranking.{LeafReady, ForkReady, NodeReady, HoleRanked, HoleSet, PartsSet, NodeRanked}
+use Rattle.tree.specs.Ranking.{AllBut, LeafReady, ForkReady, NodeReady, HoleRanked, HoleSet, PartsSet, NodeRanked}
 use Rattle.tree.proofs.Views.{on_holes, on_node}
-use Rattle.tree.proofs.Sets.{all_but_kept}
 use Rattle.tree.proofs.Places.{at_place, one_place, all_under}
 use Rattle.tree.proofs.Stretches.{Stretch, whole, first_part, second_part, stretch_fits, stretch-head}
 
@@ -39,29 +38,15 @@ pub record Shows (w : List ℕ) (t : View) : Type 0 where
   pub holes : (k : ℕ) → k < node_count t → cell w HOLES k ≡ length (under_node t k)
 
 pub shows : {w : List ℕ} {n : ℕ} → Stands w n → Counted w n → Shows w (tree_on w n)
-shows {w} {n} s c =
-    let e = on_holes w n in
-    record {
-      grid = s.grid;
-      some = omega arith;
-      few = omega arith;
-      rules = s.rules;
-      first = λ k b. rw (on_node w n k (omega arith));
-      second = λ k b. rw (on_node w n k (omega arith));
-      holes = λ k b. c k (omega arith);
-    }
+shows {w} {n} s c = grind (arith, common_steps, on_holes, on_node)
 
 pub shows_still : {w new : List ℕ} {t : View} → Shows w t → Kept w new (2_048 * FROM) (2_048 * MARKS) → Shows new t
-shows_still s p =
-    record {
-      grid = omega (arith, p.len);
-      some = s.some;
-      few = s.few;
-      rules = s.rules;
-      first = λ k b. kept_cell p FIRST k (omega arith) ∙ s.first k b;
-      second = λ k b. kept_cell p SECOND k (omega arith) ∙ s.second k b;
-      holes = λ k b. kept_cell p HOLES k (omega arith) ∙ s.holes k b;
-    }
+shows_still s p = grind (arith, common_steps)
+
+-- every word but two is kept, so every word but those of any bounds around them
+all_but_kept : {old new : List ℕ} {a b lo hi : ℕ} → AllBut old new a b → lo ≤ a → a < hi → lo ≤ b → b < hi
+    → Kept old new lo hi
+all_but_kept p l m n o = grind (arith, common_steps)
 
 -- the holes under node c are the stretch that starts at its FROM
 abbrev pub Placed : View → List ℕ → ℕ → Type 0
@@ -92,7 +77,7 @@ module _ {t : View} {k : ℕ} {w : List ℕ} (r : RankedTo t k w) where
   fits j a b = omega (arith, stretch_fits (placed j a b), all_under t r.shown.rules (omega arith))
 
   in_ranks : (j : ℕ) → j ≤ k → j < node_count t → cell w FROM j < hole_count t
-  in_ranks j a b = omega (arith, fits j a b, some_under t r.shown.rules j b)
+  in_ranks j a b = grind (arith, common_steps, fits, some_under)
 
   -- at a leaf's rank stands its hole
   leaf_place : (j : ℕ) → j ≤ k → j < node_count t → Leaf t j → get_or (under_node t 0) (cell w FROM j) 0 ≡ (node t j).1
@@ -100,7 +85,7 @@ module _ {t : View} {k : ℕ} {w : List ℕ} (r : RankedTo t k w) where
 
   -- node k's turn
   module _ (b : k < node_count t) where
-    leaf-ready : Leaf t k → LeafReady w k
+    leaf-ready : Leaf t k → LeafReady w k (cell w SECOND k)
     leaf-ready l =
         record {
           grid = r.shown.grid;
@@ -112,7 +97,7 @@ module _ {t : View} {k : ℕ} {w : List ℕ} (r : RankedTo t k w) where
     parts-placed : (Leaf t k → ⊥) → Stretch (under_node t 0) (under_node t (node t k).0 ++ under_node t (node t k).1) (cell w FROM k)
     parts-placed i = rw (under_fork t r.shown.rules k b i) at (placed k (omega arith) b)
 
-    fork-ready : (Leaf t k → ⊥) → ForkReady w k
+    fork-ready : (Leaf t k → ⊥) → ForkReady w k (cell w FIRST k) (cell w SECOND k)
     fork-ready i =
         let f = (r.shown.rules k b).fork i in
         let one = under_node t (node t k).0 in
@@ -129,13 +114,7 @@ module _ {t : View} {k : ℕ} {w : List ℕ} (r : RankedTo t k w) where
         }
 
     pub ready : NodeReady w k
-    ready =
-        record {
-          grid = r.shown.grid;
-          row = omega arith;
-          leaf = λ e. leaf-ready (rw (r.shown.first k b) at e);
-          fork = λ e. fork-ready (rw (r.shown.first k b) at e);
-        }
+    ready = grind (arith, common_steps, leaf-ready, fork-ready)
 
     module _ {new : List ℕ} (p : NodeRanked w new k) where
       as-leaf : Leaf t k → HoleSet w new (cell w FROM k) (node t k).1

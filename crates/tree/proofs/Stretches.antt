@@ -1,10 +1,11 @@
 -- A stretch of a list: it stands there from a place on. Where two lists joined are a stretch, each of them is. Assumes nothing.
+use Rattle.std.proofs.lemmas.Grind.{common_steps}
 use mathlib.Core.Path.{◌≡◌, refl, sym, ◌∙◌}
 use mathlib.Core.List.{List, [], ◌∷◌, ◌++◌, append_assoc, append-nil}
 use Prim.Native.Nat.{ℕ, ◌+◌, ◌≤◌}
 use native.Mathlib.Omega.{arith}
 use lib.ListN.{length, get_or, take, drop, length-append}
-use lib.Seq.{take-append_seam, drop_at, get_or_at}
+use lib.Seq.{get_or_at}
 
 pub record Stretch (all xs : List ℕ) (at : ℕ) : Type 0 where
   pub before : List ℕ
@@ -27,8 +28,7 @@ module _ {all xs : List ℕ} {at : ℕ} (s : Stretch all xs at) where
   stretch_fits = rw (s.is, length-append, length-append) (omega arith)
 
   pub stretch_is : xs ≡ take (length xs) (drop at all)
-  stretch_is =
-      sym (rw (s.is, drop_at s.before (xs ++ s.after) at s.place) (take-append_seam xs s.after))
+  stretch_is = grind (arith, common_steps)
 
 pub stretch-head : {all : List ℕ} {x at : ℕ} → Stretch all (x ∷ []) at → get_or all at 0 ≡ x
 stretch-head {x} {at} s = rw s.is (get_or_at s.before x s.after 0 at s.place)

@@ -1,6 +1,7 @@
 -- Summing up, node by node from the last down. A node's parts are above it, so they are summed up when its turn comes, and what is under it is what
 -- is under its first part, then what is under its second. Assumes nothing.
-use mathlib.Core.Path.{◌≡◌, refl, ◌∙◌}
+use Rattle.std.proofs.lemmas.Grind.{common_steps}
+use mathlib.Core.Path.{◌≡◌, ◌∙◌}
 use mathlib.Core.List.{List}
 use Prim.Native.Nat.{ℕ, ◌+◌, ◌*◌, ◌-◌, ◌≤◌, ◌<◌}
 use native.Mathlib.Nat.{zero-add}
@@ -21,7 +22,6 @@ use Rattle.field.specs.Boxes.{HolesIn, box_on, Boxed}
 use Rattle.field.proofs.Boxes.{box_high, boxed-cell, boxed_other}
 use Rattle.field.proofs.Places.{hole_in}
 use Rattle.tree.specs.Standing.{tree_on, Stands}
-use Rattle.tree.specs.Steps.{Summed}
 use Rattle.tree.specs.Summing.{SumsPut, Filled, PartsAbove, Summable, NodeSummed}
 use Rattle.tree.proofs.Totals.{Totals, totals_one, totals_both}
 use Rattle.tree.proofs.Standing.{
@@ -67,19 +67,6 @@ pub record SummedFrom (hs : List ℕ) (d n : ℕ) (old new : List ℕ) (k : ℕ)
   pub totals : (j : ℕ) → k ≤ j → j < nodes_of n → SummedAt hs d n (tree_on old n) new j
   pub rest : (i : ℕ) → (2_048 * HOLES ≤ i → i < 2_048 * FROM → ⊥) → i < 2_048 * LOW → word new i ≡ word old i
 
-pub start : {w hs : List ℕ} {d n : ℕ} → SummedFrom hs d n w w (nodes_of n)
-start = record { within = omega arith; len = refl; totals = λ j a b. absurd (omega arith); rest = λ i a b. refl }
-
-pub done : {old new hs : List ℕ} {d n k : ℕ} → SummedFrom hs d n old new k → k ≤ 0 → Summed hs d n old new
-done s e =
-    record {
-      len = s.len;
-      holes = λ j b. (s.totals j (omega arith) b).holes;
-      lowest = λ j b. (s.totals j (omega arith) b).lowest;
-      box = λ j b. (s.totals j (omega arith) b).box;
-      rest = s.rest;
-    }
-
 -- node k's turn: the nodes above it are summed up
 module _ {old w hs : List ℕ} {d n : ℕ} (k : ℕ) (t : Stands old n) (h : HolesIn hs d n) (s : SummedFrom hs d n old w (k + 1)) where
   node_k : k < nodes_of n
@@ -101,14 +88,7 @@ module _ {old w hs : List ℕ} {d n : ℕ} (k : ℕ) (t : Stands old n) (h : Hol
   part_row p = (p.above, omega (arith, p.node, t.few))
 
   parts_above : (cell w FIRST k ≡ leaf_mark → ⊥) → PartsAbove w k (cell w FIRST k) (cell w SECOND k)
-  parts_above f =
-      let p = first_on stands k node_k f in
-      let q = second_on stands k node_k f in
-      record {
-        first = part_row p;
-        second = part_row q;
-        fits = rw ((part_summed p).holes, (part_summed q).holes) (omega (arith, under_few stands _ p.node, under_few stands _ q.node, t.few));
-      }
+  parts_above f = grind (arith, common_steps, first_on, second_on, part_row, part_summed, under_few)
 
   node_ready : Summable w hs d k
   node_ready =
@@ -120,25 +100,7 @@ module _ {old w hs : List ℕ} {d n : ℕ} (k : ℕ) (t : Stands old n) (h : Hol
 
   fill : {new : List ℕ} {m l : ℕ} {B : Box} → Filled w new d k m l B → Totals (holes_at d hs 0 n) (under_node (tree_on w n) k) m l B
       → SummedFrom hs d n old new k
-  fill q z =
-      let few = t.few in
-      let here = node_k in
-      record {
-        within = omega arith;
-        len = q.len ∙ s.len;
-        totals = λ j a c.
-            cases (eqb j k)
-            (λ e. rw (eqb-true j k e, q.holes, q.lowest, q.box, ← same) z)
-            (λ e.
-            let f = eqb-false j k e in
-            rw (
-              q.rest (2_048 * HOLES + j) (λ x. f (omega arith)) (omega arith) (omega arith),
-              q.rest (2_048 * LOWEST + j) (omega arith) (λ x. f (omega arith)) (omega arith),
-              q.others j (omega arith) f,
-            )
-            (s.totals j (omega arith) c));
-        rest = λ i x y. q.rest i (λ e. x (omega arith) (omega arith)) (λ e. x (omega arith) (omega arith)) y ∙ s.rest i x y;
-      }
+  fill q z = grind (arith, common_steps, node_k, same)
 
   node_turn : {new : List ℕ} → NodeSummed hs d k w new → SummedFrom hs d n old new k
   node_turn p =

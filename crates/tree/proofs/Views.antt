@@ -1,6 +1,7 @@
 -- The tree on the slate and the tree in a record's nodes, node by node: a list made over the numbers below n has at k what is made of k.
 -- So areas with the same first and second parts have the same tree. Assumes nothing.
-use mathlib.Core.Path.{◌≡◌, refl, sym, ap₂, ◌∙◌}
+use Rattle.std.proofs.lemmas.Grind.{common_steps}
+use mathlib.Core.Path.{◌≡◌, refl, ap₂, ◌∙◌}
 use mathlib.Core.List.{List, [], ◌∷◌, map}
 use Prim.Native.Nat.{ℕ, zero, suc, ◌+◌, ◌*◌, ◌<◌, ◌≤◌}
 use native.Mathlib.Nat.{add-zero, zero-add}
@@ -63,14 +64,4 @@ same-tree a b n f s =
 -- a view with the nodes that are on the slate is alike, and so are a record's nodes with the same numbers
 pub alike_on : (v : View) (w : List ℕ) (n : ℕ) → hole_count v ≡ n → ((k : ℕ) → k < nodes_of n → node v k ≡ (cell w FIRST k, cell w SECOND k))
     → Alike v (tree_on w n)
-alike_on v w n e h =
-    record {
-      holes = e ∙ sym (on_holes w n);
-      nodes = λ k l.
-          let m : k < nodes_of n = omega arith in
-          h k m ∙ sym (on_node w n k m);
-    }
-
-pub alike_tree : (ns w : List ℕ) (n : ℕ) → ((k : ℕ) → k < nodes_of n → cell w FIRST k ≡ be 2 ns (4 * k))
-    → ((k : ℕ) → k < nodes_of n → cell w SECOND k ≡ be 2 ns (4 * k + 2)) → Alike (tree_in ns n) (tree_on w n)
-alike_tree ns w n f s = alike_on (tree_in ns n) w n (in_holes ns n) (λ k l. in_node ns n k l ∙ rw (f k l, s k l))
+alike_on v w n e h = grind (arith, common_steps, on_holes, on_node)

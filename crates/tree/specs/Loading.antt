@@ -7,11 +7,6 @@ use Rattle.paper.specs.Record.{View, leaf_mark, nodes_of}
 use Rattle.paper.specs.Rules.{hole_count, node_count, node, Leaf, Names, NodeRule}
 use Rattle.tree.specs.Standing.{tree_in}
 
--- a test's answer: whether P holds
-pub record Tells (P : Type 0) (r : Bool) : Type 0 where
-  pub yes : r ≡ true → P
-  pub no : r ≡ false → P → ⊥
-
 -- a step's answer: it is taken where P holds, and then Q does, and is refused where P does not
 pub record Tries (P Q : Type 0) (old new : List ℕ) (r : Bool) : Type 0 where
   pub len : length new ≡ length old

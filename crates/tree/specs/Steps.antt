@@ -1,5 +1,5 @@
 -- What each step over the tree leaves on the slate. Assumes nothing.
-use Rattle.std.specs.Prelude.{◌≡◌, ◌↔◌, List, ℕ, ◌+◌, ◌*◌, ◌<◌, ◌≤◌, length, get_or, take, drop}
+use Rattle.std.specs.Prelude.{◌≡◌, ◌↔◌, List, ℕ, ◌+◌, ◌*◌, ◌<◌, ◌≤◌, length, get_or, take, drop, Option, None}
 use Rattle.words.specs.Area.{word}
 use Rattle.slate.specs.Columns.{HOLES, LOWEST, FROM, ORDER, RANK, MARKS, LOW}
 use Rattle.slate.specs.Slate.{cell, column, Grid}
@@ -11,8 +11,6 @@ use Rattle.paper.specs.Questions.{lowest}
 use Rattle.theory.specs.Trees.{Alike}
 use Rattle.field.specs.Boxes.{box_on}
 use Rattle.field.specs.Found.{Finds}
-use Rattle.field.specs.declared.Found.{Found}
-use Rattle.field.specs.declared.Found.TheVariants.{Nothing}
 use Rattle.tree.specs.Standing.{tree_on, tree_in}
 
 -- there are the nodes of a tree of n holes in a list of bytes, and room for them on the slate
@@ -23,11 +21,11 @@ pub record NodesIn (w ns : List ℕ) (n : ℕ) : Type 0 where
   pub all : 4 * nodes_of n ≤ length ns
 
 -- loading: the least node that breaks its rule, or the tree stands, and a node's mark is 0 exactly where no node names it
-pub record Loading (ns : List ℕ) (n : ℕ) (old new : List ℕ) (r : Found) : Type 0 where
+pub record Loading (ns : List ℕ) (n : ℕ) (old new : List ℕ) (r : Option ℕ) : Type 0 where
   pub len : length new ≡ length old
   pub found : Finds (λ k. NodeRule (tree_in ns n) k → ⊥) (nodes_of n) r
-  pub tree : r ≡ Nothing → Alike (tree_in ns n) (tree_on new n)
-  pub marks : r ≡ Nothing → (k : ℕ) → k < nodes_of n → cell new MARKS k ≡ 0 ↔ ((j : ℕ) → j < nodes_of n → Names (tree_in ns n) j k → ⊥)
+  pub tree : r ≡ None → Alike (tree_in ns n) (tree_on new n)
+  pub marks : r ≡ None → (k : ℕ) → k < nodes_of n → cell new MARKS k ≡ 0 ↔ ((j : ℕ) → j < nodes_of n → Names (tree_in ns n) j k → ⊥)
 
 -- summing up: how many holes are under each node, the lowest of them, and their box. Beside these columns nothing has changed
 pub record Summed (hs : List ℕ) (d n : ℕ) (old new : List ℕ) : Type 0 where

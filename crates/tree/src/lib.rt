@@ -3,27 +3,80 @@
 // but its parts have higher numbers than their node.
 #![tactic(auto)]
 
-ghost use Rattle.std.specs.Prelude.{◌≡◌, ◌+◌, ◌*◌, ◌<◌, ◌≤◌, min};
-ghost use Rattle.slate.specs.Columns.{MARKS, LOWEST, ORDER};
+ghost use Rattle.std.specs.Prelude.{◌≡◌, ◌↔◌, ◌+◌, ◌*◌, ◌<◌, ◌≤◌, min, IsTrue};
+ghost use Rattle.slate.specs.Columns.{FIRST, SECOND, MARKS, LOWEST, ORDER};
 ghost use Rattle.slate.specs.Slate.{cell, Grid, Within, Columned};
 ghost use Rattle.paper.specs.Record.{nodes_of};
 ghost use Rattle.field.specs.Found.{Finds};
 ghost use Rattle.field.specs.Boxes.{HolesIn, HoleIn, NodeOn, Boxed, box_on};
 ghost use Rattle.paper.specs.Tree.{box_at, axis, first};
 ghost use Rattle.tree.specs.Standing.{Stands};
+ghost use Rattle.tree.specs.Nodes.{numbers, IsNode};
 ghost use Rattle.tree.specs.Steps.{NodesIn, Loading, Summed, Counted, Ranked};
-ghost use Rattle.tree.specs.Loading.{Tells, NodeRow, Nameable, BothNameable, NodePut, Next, LeafTried, ForkTried, NodeTried};
+ghost use Rattle.tree.specs.Loading.{NodeRow, Nameable, BothNameable, NodePut, Next, LeafTried, ForkTried, NodeTried};
 ghost use Rattle.tree.specs.Summing.{SumsPut, LeafFilled, PartsAbove, ForkFilled, Summable, NodeSummed};
 ghost use Rattle.tree.specs.Ranking.{LeafReady, LeafRanked, ForkReady, ForkRanked, NodeReady, NodeRanked};
 ghost use Rattle.paper.specs.Field.{holes_at};
 ghost use Rattle.tree.specs.Planting.{StretchOn, PartReady, Parted, CutInTwo, Plantable, Forked, Planted, FieldIn, Numbered, Grown, stretch};
-ghost use Rattle.tree.specs.Parting.{Sifted, Placing, goes, HolePlaced, TakenBack};
+ghost use Rattle.tree.specs.Parting.{Sifted, TakenBack};
 
-use field::Found;
+// The first number of a leaf, which is no node's.
+const LEAF: usize = 65535;
+
+// A node: a leaf has a hole, and any other node two parts.
+#[derive(Clone, Copy)]
+pub enum Node {
+    Leaf(usize),
+    Fork(usize, usize),
+}
+
+impl Node {
+    // A node by the two numbers that a record or the slate has for it.
+    fn from_numbers(two: (usize, usize)) -> Node
+        ensures { IsNode two.0 two.1 result }
+    {
+        if two.0 == LEAF {
+            Node::Leaf(two.1)
+        } else {
+            Node::Fork(two.0, two.1)
+        }
+    }
+
+    // A node's two numbers.
+    fn numbers(self) -> (usize, usize)
+        ensures { result ≡ numbers self }
+    {
+        match self {
+            Node::Leaf(hole) => (LEAF, hole),
+            Node::Fork(one, two) => (one, two),
+        }
+    }
+}
+
+// Node k of the tree on the slate.
+pub fn node_at(work: &[u8], k: usize) -> Node
+    requires { Grid work.now × (k < 2048) }
+    ensures { IsNode (cell work.now FIRST k) (cell work.now SECOND k) result }
+{
+    Node::from_numbers((
+        slate::cell(work, slate::FIRST, k),
+        slate::cell(work, slate::SECOND, k),
+    ))
+}
+
+// Puts node k on the slate.
+fn put_node(work: &mut [u8], k: usize, node: Node)
+    requires { Grid work.old × (k < 2048) × ((numbers node).0 < 65536) × ((numbers node).1 < 65536) }
+    ensures { NodePut work.old work.new k (numbers node).0 (numbers node).1 }
+{
+    let (one, two) = node.numbers();
+    slate::set_cell(work, slate::FIRST, k, one);
+    slate::set_cell(work, slate::SECOND, k, two);
+}
 
 // Puts a record's nodes on the slate, one by one, up to the least that breaks its rule. MARKS tells the nodes that are named, SCRATCH
 // the holes that are held.
-pub fn load(work: &mut [u8], nodes: &[u8], n: usize) -> Found
+pub fn load(work: &mut [u8], nodes: &[u8], n: usize) -> Option<usize>
     requires { NodesIn work.old nodes.now n }
     ensures { Loading nodes.now n work.old work.new result }
 {
@@ -32,10 +85,10 @@ pub fn load(work: &mut [u8], nodes: &[u8], n: usize) -> Found
     slate::clear(work, slate::SCRATCH, n);
     for k in 0..count {
         if !load_node(work, nodes, n, k) {
-            return Found::At(k);
+            return Some(k);
         }
     }
-    Found::Nothing
+    None
 }
 
 // Takes node k of a record, where it meets its rule.
@@ -43,12 +96,10 @@ fn load_node(work: &mut [u8], nodes: &[u8], n: usize, k: usize) -> bool
     requires { Next nodes.now n k work.old }
     ensures { NodeTried nodes.now n k work.old work.new result }
 {
-    let one = words::get16(nodes, 4 * k);
-    let two = words::get16(nodes, 4 * k + 2);
-    if one == 65535 {
-        return load_leaf(work, n, k, two);
+    match Node::from_numbers(paper::two_numbers_at(nodes, 4 * k)) {
+        Node::Leaf(hole) => load_leaf(work, n, k, hole),
+        Node::Fork(one, two) => load_fork(work, n, k, one, two),
     }
-    load_fork(work, n, k, one, two)
 }
 
 // Takes a leaf that names the hole h, where h is below n and no leaf names it yet.
@@ -56,14 +107,11 @@ fn load_leaf(work: &mut [u8], n: usize, k: usize, h: usize) -> bool
     requires { NodeRow work.old n k }
     ensures { LeafTried n k h work.old work.new result }
 {
-    if n <= h {
-        return false;
-    }
-    if slate::cell(work, slate::SCRATCH, h) != 0 {
+    if n <= h || slate::cell(work, slate::SCRATCH, h) != 0 {
         return false;
     }
     slate::set_cell(work, slate::SCRATCH, h, 1);
-    put_node(work, k, 65535, h);
+    put_node(work, k, Node::Leaf(h));
     true
 }
 
@@ -77,59 +125,33 @@ fn load_fork(work: &mut [u8], n: usize, k: usize, one: usize, two: usize) -> boo
     }
     slate::set_cell(work, slate::MARKS, one, 1);
     slate::set_cell(work, slate::MARKS, two, 1);
-    put_node(work, k, one, two);
+    put_node(work, k, Node::Fork(one, two));
     true
 }
 
 // Whether node k may name one and two: they are different, and it may name each.
 fn may_name_both(work: &[u8], n: usize, k: usize, one: usize, two: usize) -> bool
     requires { NodeRow work.now n k }
-    ensures { Tells (BothNameable work.now n k one two) result }
+    ensures { IsTrue result ↔ BothNameable work.now n k one two }
 {
-    if one == two {
-        return false;
-    }
-    if !may_name(work, n, k, one) {
-        return false;
-    }
-    may_name(work, n, k, two)
+    one != two && may_name(work, n, k, one) && may_name(work, n, k, two)
 }
 
 // Whether node k may name c. That c is above k and a node is tested before its mark is looked at.
 fn may_name(work: &[u8], n: usize, k: usize, c: usize) -> bool
     requires { NodeRow work.now n k }
-    ensures { Tells (Nameable work.now n k c) result }
+    ensures { IsTrue result ↔ Nameable work.now n k c }
 {
-    if c <= k {
-        return false;
-    }
-    if 2 * n - 1 <= c {
-        return false;
-    }
-    slate::cell(work, slate::MARKS, c) == 0
-}
-
-// Puts the two numbers of node k on the slate.
-fn put_node(work: &mut [u8], k: usize, one: usize, two: usize)
-    requires { Grid work.old × (k < 2048) × (one < 65536) × (two < 65536) }
-    ensures { NodePut work.old work.new k one two }
-{
-    slate::set_cell(work, slate::FIRST, k, one);
-    slate::set_cell(work, slate::SECOND, k, two);
+    k < c && c < 2 * n - 1 && slate::cell(work, slate::MARKS, c) == 0
 }
 
 // The least node above 0 that no node names, by the marks.
-pub fn loose(work: &[u8], n: usize) -> Found
+pub fn loose(work: &[u8], n: usize) -> Option<usize>
     requires grid { Grid work.now }
     requires le_n { (1 ≤ n) × (n ≤ 1024) }
     ensures { Finds (λ k. (0 < k) × (cell work.now MARKS k ≡ 0)) (nodes_of n) result }
 {
-    for k in 1..2 * n - 1 {
-        if slate::cell(work, slate::MARKS, k) == 0 {
-            return Found::At(k);
-        }
-    }
-    Found::Nothing
+    (1..2 * n - 1).find(|&k| slate::cell(work, slate::MARKS, k) == 0)
 }
 
 // How many holes are under each node, the lowest of them and their box, from the last node down to the root.
@@ -138,9 +160,7 @@ pub fn sum_up(work: &mut [u8], holes: &[u8], d: usize, n: usize)
     requires holes_in { HolesIn holes.now d n }
     ensures { Summed holes.now d n work.old work.new }
 {
-    let mut k = 2 * n - 1;
-    while 0 < k {
-        k -= 1;
+    for k in (0..2 * n - 1).rev() {
         sum_node(work, holes, d, k);
     }
 }
@@ -150,12 +170,9 @@ fn sum_node(work: &mut [u8], holes: &[u8], d: usize, k: usize)
     requires { Summable work.old holes.now d k }
     ensures { NodeSummed holes.now d k work.old work.new }
 {
-    let one = slate::cell(work, slate::FIRST, k);
-    let two = slate::cell(work, slate::SECOND, k);
-    if one == 65535 {
-        sum_leaf(work, holes, d, k, two);
-    } else {
-        sum_fork(work, d, k, one, two);
+    match node_at(work, k) {
+        Node::Leaf(hole) => sum_leaf(work, holes, d, k, hole),
+        Node::Fork(one, two) => sum_fork(work, d, k, one, two),
     }
 }
 
@@ -187,9 +204,7 @@ fn lowest_of(work: &[u8], i: usize, j: usize) -> usize
     requires within_2 { Within work.now LOWEST j }
     ensures { (result ≡ min (cell work.now LOWEST i) (cell work.now LOWEST j)) × (result < 65536) }
 {
-    let a = slate::cell(work, slate::LOWEST, i);
-    let b = slate::cell(work, slate::LOWEST, j);
-    if a < b { a } else { b }
+    slate::cell(work, slate::LOWEST, i).min(slate::cell(work, slate::LOWEST, j))
 }
 
 // Node k has m holes, the lowest of them l.
@@ -219,35 +234,38 @@ fn rank_node(work: &mut [u8], k: usize)
     requires { NodeReady work.old k }
     ensures { NodeRanked work.old work.new k }
 {
-    if slate::cell(work, slate::FIRST, k) == 65535 {
-        rank_leaf(work, k);
-    } else {
-        rank_fork(work, k);
+    match node_at(work, k) {
+        Node::Leaf(hole) => rank_leaf(work, k, hole),
+        Node::Fork(one, two) => rank_fork(work, k, one, two),
     }
 }
 
 // A leaf's hole has the leaf's place in the order.
-fn rank_leaf(work: &mut [u8], k: usize)
-    requires { LeafReady work.old k }
-    ensures { LeafRanked work.old work.new k }
+fn rank_leaf(work: &mut [u8], k: usize, hole: usize)
+    requires { LeafReady work.old k hole }
+    ensures { LeafRanked work.old work.new k hole }
 {
     let from = slate::cell(work, slate::FROM, k);
-    let hole = slate::cell(work, slate::SECOND, k);
     slate::set_cell(work, slate::ORDER, from, hole);
     slate::set_cell(work, slate::RANK, hole, from);
 }
 
 // The first part starts where its node does, and the second where the first ends.
-fn rank_fork(work: &mut [u8], k: usize)
-    requires { ForkReady work.old k }
-    ensures { ForkRanked work.old work.new k }
+fn rank_fork(work: &mut [u8], k: usize, one: usize, two: usize)
+    requires { ForkReady work.old k one two }
+    ensures { ForkRanked work.old work.new k one two }
 {
     let from = slate::cell(work, slate::FROM, k);
-    let one = slate::cell(work, slate::FIRST, k);
-    let two = slate::cell(work, slate::SECOND, k);
     let holes = slate::cell(work, slate::HOLES, one);
     slate::set_cell(work, slate::FROM, one, from);
     slate::set_cell(work, slate::FROM, two, from + holes);
+}
+
+// A stretch of ORDER, which is a set of holes: where it starts and how many holes it has.
+#[derive(Clone, Copy)]
+struct Stretch {
+    from: usize,
+    size: usize,
 }
 
 // Cuts the field into its tree: a node, then all of its first part, then all of its second.
@@ -257,22 +275,42 @@ pub fn plant(work: &mut [u8], holes: &[u8], d: usize, n: usize)
     ensures { Grown (holes_at d holes.now 0 n) n work.old work.new }
 {
     number_holes(work, n);
-    plant_from(work, holes, d, n, 0, n, 0);
+    plant_from(work, holes, d, n, Stretch { from: 0, size: n }, 0);
 }
 
-// Plants the m holes from place lo of ORDER on as node k and those after it. A set of one hole is a leaf.
-fn plant_from(work: &mut [u8], holes: &[u8], d: usize, n: usize, lo: usize, m: usize, k: usize)
-    requires { Plantable work.old holes.now d n lo m k }
-    ensures { Planted (holes_at d holes.now 0 n) lo m k work.old work.new }
+// Plants the holes of a stretch as node k and those after it. A set of one hole is a leaf.
+fn plant_from(work: &mut [u8], holes: &[u8], d: usize, n: usize, s: Stretch, k: usize)
+    requires { Plantable work.old holes.now d n s.from s.size k }
+    ensures { Planted (holes_at d holes.now 0 n) s.from s.size k work.old work.new }
 {
-    if m == 1 {
-        let hole = slate::cell(work, slate::ORDER, lo);
-        put_node(work, k, 65535, hole);
+    if s.size == 1 {
+        let hole = slate::cell(work, slate::ORDER, s.from);
+        put_node(work, k, Node::Leaf(hole));
         return;
     }
-    let f = plant_fork(work, holes, d, n, lo, m, k);
-    plant_from(work, holes, d, n, lo, f, k + 1);
-    plant_from(work, holes, d, n, lo + f, m - f, k + 2 * f);
+    let f = plant_fork(work, holes, d, n, s, k);
+    plant_from(
+        work,
+        holes,
+        d,
+        n,
+        Stretch {
+            from: s.from,
+            size: f,
+        },
+        k + 1,
+    );
+    plant_from(
+        work,
+        holes,
+        d,
+        n,
+        Stretch {
+            from: s.from + f,
+            size: s.size - f,
+        },
+        k + 2 * f,
+    );
 }
 
 // Puts the numbers of the holes in ORDER, from 0 on.
@@ -286,123 +324,85 @@ fn number_holes(work: &mut [u8], n: usize)
 }
 
 // Cuts a stretch of two or more holes in two and puts its node k, which names the roots of the parts. Gives how many holes the first has.
-fn plant_fork(
-    work: &mut [u8],
-    holes: &[u8],
-    d: usize,
-    n: usize,
-    lo: usize,
-    m: usize,
-    k: usize,
-) -> usize
-    requires plantable { Plantable work.old holes.now d n lo m k }
-    requires le_m { 2 ≤ m }
-    ensures { Forked (holes_at d holes.now 0 n) lo m k work.old work.new result }
+fn plant_fork(work: &mut [u8], holes: &[u8], d: usize, n: usize, s: Stretch, k: usize) -> usize
+    requires plantable { Plantable work.old holes.now d n s.from s.size k }
+    requires many { 2 ≤ s.size }
+    ensures { Forked (holes_at d holes.now 0 n) s.from s.size k work.old work.new result }
 {
-    let f = cut_in_two(work, holes, d, n, lo, m, k);
-    put_node(work, k, k + 1, k + 2 * f);
+    let f = cut_in_two(work, holes, d, n, s, k);
+    put_node(work, k, Node::Fork(k + 1, k + 2 * f));
     f
 }
 
 // Cuts a stretch in two and gives how many holes the first part has. Node k's box serves to hold the stretch's.
-fn cut_in_two(
-    work: &mut [u8],
-    holes: &[u8],
-    d: usize,
-    n: usize,
-    lo: usize,
-    m: usize,
-    k: usize,
-) -> usize
-    requires stretch_on { StretchOn work.old holes.now d n lo m }
+fn cut_in_two(work: &mut [u8], holes: &[u8], d: usize, n: usize, s: Stretch, k: usize) -> usize
+    requires stretch_on { StretchOn work.old holes.now d n s.from s.size }
     requires k_bound { k < 2048 }
-    ensures { CutInTwo (holes_at d holes.now 0 n) lo m work.old work.new result }
+    ensures { CutInTwo (holes_at d holes.now 0 n) s.from s.size work.old work.new result }
 {
-    box_of(work, holes, d, n, lo, m, k);
-    part(work, holes, d, n, lo, m, k)
+    box_of(work, holes, d, n, s, k);
+    part(work, holes, d, n, s, k)
 }
 
 // Node k's box is that of the stretch.
-fn box_of(work: &mut [u8], holes: &[u8], d: usize, n: usize, lo: usize, m: usize, k: usize)
-    requires stretch_on { StretchOn work.old holes.now d n lo m }
+fn box_of(work: &mut [u8], holes: &[u8], d: usize, n: usize, s: Stretch, k: usize)
+    requires stretch_on { StretchOn work.old holes.now d n s.from s.size }
     requires k_bound { k < 2048 }
-    ensures { Boxed work.old work.new d k (box_at (holes_at d holes.now 0 n) (stretch work.old lo m)) }
+    ensures { Boxed work.old work.new d k (box_at (holes_at d holes.now 0 n) (stretch work.old s.from s.size)) }
 {
-    let first = slate::cell(work, slate::ORDER, lo);
+    let first = slate::cell(work, slate::ORDER, s.from);
     field::set_point(work, holes, d, k, first);
-    for i in 1..m {
-        let hole = slate::cell(work, slate::ORDER, lo + i);
+    for i in 1..s.size {
+        let hole = slate::cell(work, slate::ORDER, s.from + i);
         field::set_beside(work, holes, d, k, hole);
     }
 }
 
 // Puts the first part of a stretch in front, in its order, and the second after it; gives how many holes the first has. SCRATCH holds the second
 // on the way.
-fn part(work: &mut [u8], holes: &[u8], d: usize, n: usize, lo: usize, m: usize, k: usize) -> usize
-    requires { PartReady work.old holes.now d n lo m k }
-    ensures { Parted (holes_at d holes.now 0 n) lo m work.old work.new result }
+fn part(work: &mut [u8], holes: &[u8], d: usize, n: usize, s: Stretch, k: usize) -> usize
+    requires { PartReady work.old holes.now d n s.from s.size k }
+    ensures { Parted (holes_at d holes.now 0 n) s.from s.size work.old work.new result }
 {
     let x = field::cut_axis(work, d, k);
-    let f = sift(work, holes, d, n, lo, m, k, x);
-    take_back(work, lo + f, m - f);
+    let f = sift(work, holes, d, n, s, k, x);
+    take_back(
+        work,
+        Stretch {
+            from: s.from + f,
+            size: s.size - f,
+        },
+    );
     f
 }
 
 // Puts the holes of a stretch that go first in front, and the others in SCRATCH, each in their order; gives how many go first.
-fn sift(
-    work: &mut [u8],
-    holes: &[u8],
-    d: usize,
-    n: usize,
-    lo: usize,
-    m: usize,
-    k: usize,
-    x: usize,
-) -> usize
-    requires part_ready { PartReady work.old holes.now d n lo m k }
+fn sift(work: &mut [u8], holes: &[u8], d: usize, n: usize, s: Stretch, k: usize, x: usize) -> usize
+    requires part_ready { PartReady work.old holes.now d n s.from s.size k }
     requires x_value { (x ≡ axis (box_on work.old d k)) × (x < d) }
-    ensures { Sifted (first (holes_at d holes.now 0 n) (stretch work.old lo m)) lo m work.old work.new result }
+    ensures { Sifted (first (holes_at d holes.now 0 n) (stretch work.old s.from s.size)) s.from s.size work.old work.new result }
 {
     let mut f = 0;
-    for i in 0..m {
-        if place(work, holes, d, k, x, lo + i, lo + f, i - f) {
+    for i in 0..s.size {
+        let hole = slate::cell(work, slate::ORDER, s.from + i);
+        if field::goes_first(work, holes, d, k, x, hole) {
+            slate::set_cell(work, slate::ORDER, s.from + f, hole);
             f += 1;
+        } else {
+            slate::set_cell(work, slate::SCRATCH, i - f, hole);
         }
     }
     f
 }
 
-// Puts the hole at place `from` of ORDER at place yes of it where it goes first, and else at place no of SCRATCH; gives whether it goes first.
-fn place(
-    work: &mut [u8],
-    holes: &[u8],
-    d: usize,
-    k: usize,
-    x: usize,
-    from: usize,
-    yes: usize,
-    no: usize,
-) -> bool
-    requires { Placing work.old holes.now d k x from yes no }
-    ensures { HolePlaced (goes work.old holes.now d k x) from yes no work.old work.new result }
-{
-    let hole = slate::cell(work, slate::ORDER, from);
-    if field::goes_first(work, holes, d, k, x, hole) {
-        slate::set_cell(work, slate::ORDER, yes, hole);
-        return true;
-    }
-    slate::set_cell(work, slate::SCRATCH, no, hole);
-    false
-}
-
-// Puts the first m holes of SCRATCH into ORDER from place lo on.
-fn take_back(work: &mut [u8], lo: usize, m: usize)
+// Puts the first holes of SCRATCH into a stretch.
+fn take_back(work: &mut [u8], s: Stretch)
     requires grid { Grid work.old }
-    requires m_bound { lo + m ≤ 2048 }
-    ensures { TakenBack lo m work.old work.new }
+    requires fits { s.from + s.size ≤ 2048 }
+    ensures { TakenBack s.from s.size work.old work.new }
 {
-    for i in 0..m {
+    for i in 0..s.size {
         let hole = slate::cell(work, slate::SCRATCH, i);
-        slate::set_cell(work, slate::ORDER, lo + i, hole);
+        slate::set_cell(work, slate::ORDER, s.from + i, hole);
     }
 }

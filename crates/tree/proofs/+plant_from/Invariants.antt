@@ -2,4 +2,4 @@
 use Rattle.tree.proofs.+plant_from.Given as goal
 
 abbrev pub decreases-plant_from : goal.decreases-plant_from
-decreases-plant_from l = l.m
+decreases-plant_from l = l.s.size

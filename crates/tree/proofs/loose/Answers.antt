@@ -1,38 +1,22 @@
-use mathlib.Core.Path.{◌≡◌, sym, ◌∙◌}
-use mathlib.Core.List.{List}
-use Prim.Native.Nat.{ℕ, ◌+◌, ◌<◌, ◌≤◌}
-use native.Mathlib.Omega.{arith}
-use borrow.Author.Count.{below_more}
-use borrow.Author.Rules.{rules}
+-- The search starts at 1, so what it finds is above 0. Assumes nothing.
+use Rattle.std.proofs.Common.{◌≡◌, List, ℕ, ◌<◌, ◌≤◌, Option, Some, None, MatchOption, rules, tests, arith}
+use Rattle.std.proofs.lemmas.Iterator.{first_from_Range}
 use Rattle.slate.specs.Columns.{MARKS}
-use Rattle.slate.specs.Slate.{Held}
-use Rattle.paper.specs.Record.{nodes_of}
-use Rattle.paper.specs.Refusals.{Least}
-use Rattle.tree.proofs.loose.Invariants.{Loose, NoneBelow, none}
+use Rattle.slate.specs.Slate.{cell}
+use Rattle.field.specs.Found.{Finds}
 use Rattle.tree.proofs.loose.Goals as goal
 
-start : (w : List ℕ) → NoneBelow w 1
-start w j l p = omega (arith, p.0)
+abbrev Free : List ℕ → ℕ → Type 0
+Free w k = cell w MARKS k ≡ 0
 
-turn : (w : List ℕ) {k x : ℕ} → NoneBelow w k → Held w MARKS k x → (x ≡ 0 → ⊥) → NoneBelow w (k + 1)
-turn w d h f = below_more _ _ d (λ p. f (h.is ∙ p.1))
-
-found : (w : List ℕ) (n : ℕ) {k x : ℕ} → NoneBelow w k → Held w MARKS k x → x ≡ 0 → 1 ≤ k → k < nodes_of n → Least (Loose w) (nodes_of n) k
-found w n d h e o l = record { within = l; holds = (o, sym h.is ∙ e); none_before = d }
-
-ruleset all = (start, turn, found, none, rules)
-
-pub loop-k-init : goal.loop-k-init
-loop-k-init c = search all
-
-pub cell-requires : goal.cell-requires
-cell-requires c = search all
-
-pub returns-then-cell-eq0 : goal.returns-then-cell-eq0
-returns-then-cell-eq0 c = search all
-
-pub loop-k-preserved : goal.loop-k-preserved
-loop-k-preserved c = search all
+found : (w : List ℕ) (n : ℕ) (r : Option ℕ)
+    → MatchOption r ((k : ℕ) → 1 ≤ k → k < n → Free w k → ⊥) (λ i. (1 ≤ i) × (i < n) × Free w i × ((k : ℕ) → 1 ≤ k → k < i → Free w k → ⊥))
+    → Finds (λ k. (0 < k) × Free w k) n r
+found w n None h = λ k l p. h k (omega arith) l p.1
+found w n (Some i) h = record { within = h.1; holds = (omega arith, h.2); none_before = λ k l p. h.3 k (omega arith) l p.1 }
 
 pub returns : goal.returns
-returns c = search all
+returns c =
+    let w = c.args.work.now in
+    found w _ _
+    (first_from_Range _ _ _ _ (Free w) (λ k. Free w k → ⊥) c.find.ensures.ran (λ k q s. search (rules, tests)) (λ k q s. search (rules, tests)))

@@ -1,10 +1,6 @@
 -- The numbers below i stand in ORDER, and a turn puts i behind them. Assumes nothing.
-use Prim.Native.Nat.{◌≤◌, ◌-◌}
 use Rattle.tree.specs.Planting.{Numbered}
 use Rattle.tree.proofs.number_holes.Given as goal
 
 abbrev pub invariant-loop-i : goal.invariant-loop-i
-invariant-loop-i l = (l.i ≤ l.n) × Numbered l.i l.initial.work l.work
-
-abbrev pub decreases-loop-i : goal.decreases-loop-i
-decreases-loop-i l = l.n - l.i
+invariant-loop-i l = Numbered l.i l.initial.work l.work

@@ -2,7 +2,6 @@ use mathlib.Core.Path.{◌≡◌}
 use mathlib.Core.List.{List}
 use Prim.Native.Nat.{ℕ, ◌+◌, ◌*◌, ◌≤◌, ◌<◌}
 use native.Mathlib.Omega.{arith}
-use borrow.Author.Rules.{rules}
 use Rattle.slate.specs.Columns.{FROM, MARKS}
 use Rattle.slate.specs.Slate.{Set, Kept}
 use Rattle.slate.proofs.Frames.{kept_none, kept_set, kept_both}
@@ -51,19 +50,14 @@ module _ {n : ℕ} {old mid : List ℕ} (s : Stands old n) (counted : Counted ol
         rest = kept.rest;
       }
 
-ruleset all = (begin, node_ready, next, end, rules)
-
-pub set_cell-requires : goal.set_cell-requires
-set_cell-requires c = search all
-
 pub loop-k-init : goal.loop-k-init
-loop-k-init c = search all
+loop-k-init c = begin c.requires.stands c.requires.counted c.set_cell.ensures
 
 pub rank_node-requires : goal.rank_node-requires
-rank_node-requires c = search all
+rank_node-requires c = node_ready c.loop-k.invariant (omega arith)
 
 pub loop-k-preserved : goal.loop-k-preserved
-loop-k-preserved c = search all
+loop-k-preserved c = next c.loop-k.invariant (omega arith) c.rank_node.ensures
 
 pub returns : goal.returns
-returns c = search all
+returns c = end c.requires.stands c.requires.counted c.set_cell.ensures c.loop-k.invariant (omega arith)

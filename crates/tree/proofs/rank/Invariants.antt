@@ -1,9 +1,7 @@
 -- The nodes below k are ranked. The loop starts with the root's FROM set, which leaves the tree and its counts. Assumes nothing.
-use mathlib.Core.List.{List}
-use Prim.Native.Nat.{ℕ, ◌-◌, ◌*◌, ◌≤◌}
+use Rattle.std.proofs.Common.{List, ℕ, ◌*◌}
 use Rattle.slate.specs.Columns.{FROM, MARKS}
 use Rattle.slate.specs.Slate.{Kept}
-use Rattle.paper.specs.Record.{nodes_of}
 use Rattle.tree.specs.Standing.{tree_on}
 use Rattle.tree.proofs.RankTurns.{RankedTo}
 use Rattle.tree.proofs.rank.Given as goal
@@ -14,7 +12,4 @@ pub record NodesRanked (n k : ℕ) (old w : List ℕ) : Type 0 where
   pub ranked : RankedTo (tree_on old n) k w
 
 abbrev pub invariant-loop-k : goal.invariant-loop-k
-invariant-loop-k l = (l.k ≤ nodes_of l.n) × NodesRanked l.n l.k l.initial.work l.work
-
-abbrev pub decreases-loop-k : goal.decreases-loop-k
-decreases-loop-k l = nodes_of l.n - l.k
+invariant-loop-k l = NodesRanked l.n l.k l.initial.work l.work

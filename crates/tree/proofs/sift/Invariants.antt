@@ -1,5 +1,4 @@
 -- The first i holes of the stretch are sifted; a turn places one more. Assumes nothing.
-use Prim.Native.Nat.{◌≤◌, ◌-◌}
 use Rattle.paper.specs.Field.{holes_at}
 use Rattle.paper.specs.Tree.{first}
 use Rattle.tree.specs.Planting.{stretch}
@@ -7,7 +6,5 @@ use Rattle.tree.specs.Parting.{Sifted}
 use Rattle.tree.proofs.sift.Given as goal
 
 abbrev pub invariant-loop-i : goal.invariant-loop-i
-invariant-loop-i l = (l.i ≤ l.m) × Sifted (first (holes_at l.d l.holes 0 l.n) (stretch l.initial.work l.lo l.m)) l.lo l.i l.initial.work l.work l.f
-
-abbrev pub decreases-loop-i : goal.decreases-loop-i
-decreases-loop-i l = l.m - l.i
+invariant-loop-i l =
+    Sifted (first (holes_at l.d l.holes 0 l.n) (stretch l.initial.work l.s.from l.s.size)) l.s.from l.i l.initial.work l.work l.f

@@ -1,17 +1,9 @@
-use borrow.Author.Rules.{rules}
-use Rattle.tree.proofs.SumTurns.{start, done, ready, turn}
+use Rattle.std.proofs.Common.{arith}
+use Rattle.tree.proofs.SumTurns.{ready, turn}
 use Rattle.tree.proofs.sum_up.Goals as goal
 
-ruleset all = (start, done, ready, turn, rules)
-
-pub loop-k-init : goal.loop-k-init
-loop-k-init c = search all
-
 pub sum_node-requires : goal.sum_node-requires
-sum_node-requires c = search all
+sum_node-requires c = ready c.requires.stands c.requires.holes_in c.loop-k.invariant (omega arith)
 
 pub loop-k-preserved : goal.loop-k-preserved
-loop-k-preserved c = search all
-
-pub returns : goal.returns
-returns c = search all
+loop-k-preserved c = turn c.requires.stands c.requires.holes_in c.loop-k.invariant (omega arith) c.sum_node.ensures

@@ -4,6 +4,3 @@ use Rattle.tree.proofs.sum_up.Given as goal
 
 abbrev pub invariant-loop-k : goal.invariant-loop-k
 invariant-loop-k l = SummedFrom l.holes l.d l.n l.initial.work l.work l.k
-
-abbrev pub decreases-loop-k : goal.decreases-loop-k
-decreases-loop-k l = l.k

@@ -1,20 +1,9 @@
-use borrow.Author.Rules.{rules}
-use Rattle.tree.proofs.PartTurns.{take_none, take_turn, take_done}
+use Rattle.std.proofs.Common.{arith}
+use Rattle.tree.proofs.PartTurns.{take_none, take_turn}
 use Rattle.tree.proofs.take_back.Goals as goal
 
-ruleset all = (take_none, take_turn, take_done, rules)
-
 pub loop-i-init : goal.loop-i-init
-loop-i-init c = search all
-
-pub cell-hole-requires : goal.cell-hole-requires
-cell-hole-requires c = search all
-
-pub set_cell-requires : goal.set_cell-requires
-set_cell-requires c = search all
+loop-i-init c = take_none
 
 pub loop-i-preserved : goal.loop-i-preserved
-loop-i-preserved c = search all
-
-pub returns : goal.returns
-returns c = search all
+loop-i-preserved c = take_turn c.requires.fits (omega arith) c.loop-i.invariant c.cell-hole.ensures c.set_cell.ensures
