@@ -1,5 +1,6 @@
 -- Each node that is no leaf compares its two parts, in number order. Nodes are numbered as they are met, so the pairs of a node and of all
 -- nodes under it are those of the nodes from its number on, as many as there are under it. By induction on the tree. Assumes nothing.
+use Rattle.std.proofs.lemmas.Grind.{common_steps}
 use mathlib.Core.Path.{◌≡◌, refl, sym, ap, ◌∙◌}
 use mathlib.Core.Logic.{⊎_elim}
 use mathlib.Core.List.{List, [], ◌++◌, map, map-append, append_assoc}
@@ -8,15 +9,16 @@ use native.Mathlib.Nat.{mul-le-mul}
 use native.Mathlib.Numerals.{add-one}
 use native.Mathlib.Omega.{arith}
 use lib.Dec.{eqb}
-use lib.ListN.{length, length-append, length-map}
+use lib.ListN.{length, length-append}
 use borrow.Author.Tests.{eqb-true, eqb-false}
 use Rattle.slate.specs.Columns.{FIRST, SECOND}
-use Rattle.slate.specs.Slate.{cell, Held}
+use Rattle.slate.specs.Slate.{cell}
 use Rattle.paper.specs.Tree.{Tree, leaf, fork, number}
 use Rattle.paper.specs.Pairs.{pairs, numbers}
 use Rattle.paper.specs.Record.{nodes_of, leaf_mark}
-use Rattle.paper.specs.Rules.{node_count}
 use Rattle.paper.proofs.ListLaws.{cases}
+use Rattle.tree.specs.declared.Node.TheVariants.{Leaf, Fork}
+use Rattle.tree.specs.Nodes.{IsNode}
 use Rattle.tree.specs.Standing.{tree_on, Stands}
 use Rattle.tree.proofs.Views.{on_holes}
 use Rattle.tree.proofs.Standing.{first_on, second_on}
@@ -63,21 +65,16 @@ module _ {w : List ℕ} {d a b n k : ℕ} (g : Listable w d a b n) (l : k < node
         facing = facing_parts (rw (fork_on g.stands k l f) at (node-under g.stands k l));
       }
 
-module _ {w : List ℕ} {d a b n k at p : ℕ} (g : NodeListing w d a b n k at) (h : Held w FIRST k p) where
-  pub list_leaf : {o : List ℕ} → p ≡ 65_535 → Laid (node_pairs w d a b n k) at o o at
-  list_leaf e = rw (none_of_leaf g.listable g.node (sym h.is ∙ e)) laid_none
+module _ {w : List ℕ} {d a b n k at : ℕ} (g : NodeListing w d a b n k at) where
+  pub list_leaf : {h : ℕ} {o : List ℕ} → IsNode (cell w FIRST k) (cell w SECOND k) (Leaf h) → Laid (node_pairs w d a b n k) at o o at
+  list_leaf p = rw (none_of_leaf g.listable g.node p.0) laid_none
 
-  module _ {q : ℕ} (f : p ≡ 65_535 → ⊥) (t : Held w SECOND k q) where
-    no-leaf : cell w FIRST k ≡ leaf_mark → ⊥
-    no-leaf e = f (h.is ∙ e)
+  module _ {i j : ℕ} (p : IsNode (cell w FIRST k) (cell w SECOND k) (Fork i j)) where
+    pub compare-parts : Comparing w d a b n i j at
+    compare-parts = grind (arith, common_steps, parts_face, of_fork)
 
-    pub compare-parts : Comparing w d a b n p q at
-    compare-parts =
-        rw (h.is, t.is)
-        (record { faces = parts_face g.listable g.node no-leaf; room = rw (← of_fork g.listable g.node no-leaf) g.room })
-
-    pub list-fork : {o o' : List ℕ} {r : ℕ} → Laid (compared_on w d a b n p q) at o o' r → Laid (node_pairs w d a b n k) at o o' r
-    list-fork u = rw (of_fork g.listable g.node no-leaf) (rw (h.is, t.is) at u)
+    pub list-fork : {o o' : List ℕ} {r : ℕ} → Laid (compared_on w d a b n i j) at o o' r → Laid (node_pairs w d a b n k) at o o' r
+    list-fork u = rw (of_fork g.listable g.node p.0) (rw (p.1, p.2) at u)
 
 -- ---- all nodes in number order
 
@@ -127,10 +124,7 @@ module _ {w : List ℕ} {d a b n : ℕ} (g : Listable w d a b n) where
           rw z at e
 
   all_leaves : leaves (grown_on w n) ≡ n
-  all_leaves =
-      let v = tree_on w n in
-      let z : 0 < node_count v = omega (arith, on_holes w n, g.stands.some) in
-      leaves-grow v g.stands.rules 0 z ∙ all_under v g.stands.rules z ∙ on_holes w n
+  all_leaves = grind (arith, common_steps, on_holes, leaves-grow, all_under)
 
   pub all_below : pairs_below w d a b n (nodes_of n) ≡ pairs_on w d a b n
   unfolding all pairs_below
@@ -138,9 +132,7 @@ module _ {w : List ℕ} {d a b n : ℕ} (g : Listable w d a b n) where
 
   -- few pairs in all, and no more of the nodes below k
   few_pairs : length (pairs_below w d a b n (nodes_of n)) ≤ 1_048_576
-  few_pairs =
-      let q = rw all_leaves at (pairs_bound (far_on w d a b) (long_on w d) (grown_on w n)) in
-      rw (all_below, length-map) (omega (arith, q, mul-le-mul g.stands.few g.stands.few))
+  few_pairs = grind (arith, common_steps, all_below, pairs_bound, all_leaves, mul-le-mul)
 
   fewer_below : (k e : ℕ) → k ≤ e → length (pairs_below w d a b n k) ≤ length (pairs_below w d a b n e)
   unfolding pairs_below

@@ -1,4 +1,3 @@
-pub mod PairTurns
 pub mod Laying
 pub mod Parted
 pub mod InOrder

@@ -1,5 +1,6 @@
 -- What a comparison comes to. Nodes that face each other and are separated are one pair; else the node with the longer side is no leaf, as a leaf is
 -- never split, and the pairs are those of its first part against the other node and then those of its second. Assumes nothing.
+use Rattle.std.proofs.lemmas.Grind.{common_steps}
 use mathlib.Core.Path.{◌≡◌, ap, ◌∙◌}
 use mathlib.Core.Bool.{true, false}
 use mathlib.Core.List.{List, [], ◌∷◌, ◌++◌, map-append}
@@ -7,13 +8,13 @@ use Prim.Native.Nat.{ℕ, ◌+◌, ◌≤◌, ◌<◌}
 use native.Mathlib.Omega.{arith}
 use lib.Dec.{leb}
 use lib.ListN.{length, length-append}
-use Rattle.slate.specs.Columns.{FIRST, SECOND, REACH, SIDE}
-use Rattle.slate.specs.Slate.{cell, Held, LargeHeld}
+use Rattle.slate.specs.Columns.{FIRST, SECOND, REACH}
+use Rattle.slate.specs.Slate.{cell, CellsHeld}
 use Rattle.paper.specs.Tree.{Tree, leaf, fork, longest}
 use Rattle.paper.specs.Separation.{D, separated}
 use Rattle.paper.specs.Record.{nodes_of, leaf_mark}
 use Rattle.paper.specs.Rules.{node_count}
-use Rattle.field.specs.Boxes.{box_on, NodeOn}
+use Rattle.field.specs.Boxes.{box_on}
 use Rattle.field.proofs.Reaching.{first-reaches, second-asked}
 use Rattle.tree.specs.Standing.{tree_on, Stands}
 use Rattle.tree.proofs.Views.{on_holes, on_node}
@@ -24,7 +25,7 @@ use Rattle.theory.proofs.Subtrees.{whole, in_first, in_second, some_leaf, Facing
 use Rattle.theory.proofs.Pairing.{never-split-first, never-split-second}
 use Rattle.theory.proofs.PairRules.{rule_far, rule_first, rule_second}
 use Rattle.pairs.specs.Listing.{far_on, long_on, grown_on}
-use Rattle.pairs.specs.Comparing.{node_on, compared_on, Faces, Comparing, Laid}
+use Rattle.pairs.specs.Comparing.{node_on, compared_on, Faces, Halves, Comparing, Laid}
 use Rattle.pairs.proofs.Laying.{laid_more}
 
 -- ---- a node of the tree on the slate
@@ -61,21 +62,12 @@ module _ {w : List ℕ} {d a b n i j : ℕ} (f : Faces w d a b n i j) where
   unfolding long_on
   long_is k = rw (number-grow (tree_on w n) k)
 
-  on_slate : {k : ℕ} → k < nodes_of n → NodeOn w d k
-  on_slate l = record { grid = f.listable.stands.grid; axes = f.listable.axes; row = omega (arith, f.listable.stands.few) }
-
-  pub node_left : NodeOn w d i
-  node_left = on_slate f.left
-
-  pub node_right : NodeOn w d j
-  node_right = on_slate f.right
-
   -- neither reaches further than D
-  module _ {x far : ℕ} (e : far ≡ D (box_on w d i) (box_on w d j)) (p : LargeHeld w REACH i x) where
-    pub near_first : far < x → false ≡ separated a b (box_on w d i) (box_on w d j)
-    near_first l = first-reaches f.listable.ratio (box_on w d i) (box_on w d j) (p.is ∙ (f.listable.shapes i f.left).reach_is) e l
+  module _ {x far : ℕ} (e : far ≡ D (box_on w d i) (box_on w d j)) (p : CellsHeld 4 w REACH i x) where
+    pub near_first : far < x → separated a b (box_on w d i) (box_on w d j) ≡ false
+    near_first l = grind (arith, common_steps, first-reaches)
 
-    pub far-second : {y : ℕ} → x ≤ far → LargeHeld w REACH j y → leb y far ≡ separated a b (box_on w d i) (box_on w d j)
+    pub far-second : {y : ℕ} → x ≤ far → CellsHeld 4 w REACH j y → leb y far ≡ separated a b (box_on w d i) (box_on w d j)
     far-second l q =
         second-asked f.listable.ratio (box_on w d i) (box_on w d j)
         (p.is ∙ (f.listable.shapes i f.left).reach_is) e (q.is ∙ (f.listable.shapes j f.right).reach_is) l
@@ -146,20 +138,11 @@ module _ {w : List ℕ} {d a b n i j : ℕ} (f : Faces w d a b n i j) where
           pairs = rw (B, rule_second (far_on w d a b) (long_on w d) A j p q no longer, map-append);
         }
 
--- what SIDE holds is the longest side
-side_held : {w : List ℕ} {d a b n i j q : ℕ} → Faces w d a b n i j → (k : ℕ) → k < nodes_of n → Held w SIDE k q → q ≡ longest (box_on w d k)
-side_held f k l s = s.is ∙ (f.listable.shapes k l).side_is
+    -- what SIDE holds is the longest side
+    pub halved : {r : (ℕ × ℕ) × (ℕ × ℕ)} → Halves w i j r → Parts w d a b n i j r.0.0 r.0.1 r.1.0 r.1.1
+    halved h = grind (arith, common_steps, parts_first, parts-second)
 
--- the same by what the code has found: the longest sides, and the two parts of the node that is split
-module _ {w : List ℕ} {d a b n i j p q x z : ℕ} (f : Faces w d a b n i j) (e : separated a b (box_on w d i) (box_on w d j) ≡ false)
-    (m : Held w SIDE j q) (l : Held w SIDE i p) where
-  pub split_first : q < p → Held w FIRST i x → Held w SECOND i z → Parts w d a b n i j x j z j
-  split_first h s t = rw (s.is, t.is) (parts_first f e (rw (← side_held f j f.right m, ← side_held f i f.left l) h))
-
-  pub split_second : p ≤ q → Held w FIRST j x → Held w SECOND j z → Parts w d a b n i j i x i z
-  split_second h s t = rw (s.is, t.is) (parts-second f e (rw (← side_held f j f.right m, ← side_held f i f.left l) h))
-
--- ---- what the cycle of `compare` and `split` is asked at its calls
+-- ---- what `compare` is asked at its calls
 
 module _ {w : List ℕ} {d a b n i j at : ℕ} (c : Comparing w d a b n i j at) where
   pub one_fits : separated a b (box_on w d i) (box_on w d j) ≡ true → at + 4 ≤ 1_099_511_627_776

@@ -1,24 +1,19 @@
 -- What comparisons ask of the nodes, node by node: it is written below the columns of the boxes, so that it changes none of them. Assumes nothing.
-use mathlib.Core.Path.{◌≡◌, sym, ap, ◌∙◌}
+use mathlib.Core.Path.{sym, ap, ◌∙◌}
 use mathlib.Core.List.{List}
 use Prim.Native.Nat.{ℕ, ◌+◌, ◌*◌, ◌<◌, ◌≤◌}
 use native.Mathlib.Omega.{arith}
 use borrow.Author.Count.{below_more}
 use Rattle.slate.specs.Columns.{REACH, SIDE, LOW}
-use Rattle.slate.specs.Slate.{Set, LargeSet, Kept}
-use Rattle.slate.proofs.Frames.{kept_none, kept_set, kept_wider, kept_both, kept_cell, kept_large, set-cell}
+use Rattle.slate.specs.Slate.{Kept}
+use Rattle.slate.proofs.Frames.{kept_set, kept_wider, kept_both, kept_cell, kept_cells, set-cell}
 use Rattle.paper.specs.Tree.{longest}
 use Rattle.paper.specs.Record.{nodes_of}
-use Rattle.field.specs.Boxes.{box_on, NodeOn}
 use Rattle.field.specs.Reach.{reach}
 use Rattle.field.proofs.Boxes.{kept_box}
-use Rattle.pairs.specs.Listing.{Shape, Boxes, ShapePut, ShapesPut}
+use Rattle.pairs.specs.Listing.{Shape, Boxes, ShapePut}
 
 -- ---- one node
-
-pub shape_put : {w mid new : List ℕ} (d a b k v r : ℕ) → v ≡ longest (box_on w d k) → r ≡ reach a b (box_on w d k) → Set w mid SIDE k v
-    → LargeSet mid new REACH k r → ShapePut d a b k w new
-shape_put {mid = mid} d a b k v r e f s t = record { between = mid; side_set = rw (← e) s; reach_set = rw (← f) t }
 
 module _ {w w' : List ℕ} {d a b k : ℕ} (l : k < 2_048) (s : ShapePut d a b k w w') where
   shape_kept : Kept w w' (2_048 * REACH) (2_048 * LOW)
@@ -37,8 +32,8 @@ module _ {w w' : List ℕ} {d a b k : ℕ} (l : k < 2_048) (s : ShapePut d a b k
       let B = sym (kept_box shape_kept (omega arith) d j) in
       record {
         side_is = kept_cell s.reach_set.kept SIDE j (λ x y. omega arith) ∙ set-cell s.side_set SIDE j (omega arith) ∙ h.side_is ∙ ap longest B;
-        reach_is = kept_large s.reach_set.kept REACH j (λ x y. omega arith)
-            ∙ kept_large (kept_set {lo = 2_048 * SIDE} {hi = 2_048 * LOW} s.side_set (omega arith) (omega arith)) REACH j (λ x y. omega arith)
+        reach_is = kept_cells s.reach_set.kept 4 REACH j (λ x y. omega arith)
+            ∙ kept_cells (kept_set {lo = 2_048 * SIDE} {hi = 2_048 * LOW} s.side_set (omega arith) (omega arith)) 4 REACH j (λ x y. omega arith)
             ∙ h.reach_is
             ∙ ap (reach a b) B;
       }
@@ -50,12 +45,6 @@ pub record ShapesBelow (d a b n k : ℕ) (old new : List ℕ) : Type 0 where
   pub few : k ≤ nodes_of n
   pub each : (j : ℕ) → j < k → Shape new d a b j
 
-pub shapes_none : {w : List ℕ} {d a b n : ℕ} → ShapesBelow d a b n 0 w w
-shapes_none = record { kept = kept_none; few = omega arith; each = λ j l. absurd (omega arith) }
-
-pub shape_row : {old w : List ℕ} {d a b n k : ℕ} → Boxes old d n → ShapesBelow d a b n k old w → k < nodes_of n → NodeOn w d k
-shape_row b s l = record { grid = omega (arith, b.grid, s.kept.len); axes = b.axes; row = omega (arith, b.few) }
-
 pub shape_more : {old w w' : List ℕ} {d a b n k : ℕ} → Boxes old d n → ShapesBelow d a b n k old w → k < nodes_of n → ShapePut d a b k w w'
     → ShapesBelow d a b n (k + 1) old w'
 shape_more {w' = w'} {d = d} {a = a} {b = b} {k = k} g s l t =
@@ -65,6 +54,3 @@ shape_more {w' = w'} {d = d} {a = a} {b = b} {k = k} g s l t =
       few = omega arith;
       each = below_more (Shape w' d a b) k (λ j h. shape_other m t j h (s.each j h)) (shape_here m t);
     }
-
-pub shapes_all : {old w : List ℕ} {d a b n k : ℕ} → ShapesBelow d a b n k old w → nodes_of n ≤ k → ShapesPut d a b n old w
-shapes_all s l = record { kept = s.kept; shapes = λ j h. s.each j (omega arith) }

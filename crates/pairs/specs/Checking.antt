@@ -1,8 +1,8 @@
 -- A pair of nodes on the slate. Assumes nothing.
-use Rattle.std.specs.Prelude.{◌≡◌, Bool, true, false, List, ℕ, ◌+◌, ◌*◌, ◌<◌, ◌≤◌, length}
+use Rattle.std.specs.Prelude.{List, ℕ, ◌+◌, ◌*◌, ◌<◌, ◌≤◌, length}
 use Rattle.slate.specs.Slate.{Grid}
 use Rattle.paper.specs.Separation.{Separated}
-use Rattle.paper.specs.Record.{nodes_of, two_numbers_at}
+use Rattle.paper.specs.Record.{nodes_of}
 use Rattle.field.specs.Boxes.{box_on}
 
 -- the slate has a tree of n holes, and there are m pairs in a list of bytes
@@ -24,8 +24,3 @@ pub record PairOn (w : List ℕ) (d a b n : ℕ) (p : ℕ × ℕ) : Type 0 where
   pub left : p.0 < nodes_of n
   pub right : p.1 < nodes_of n
   pub far : Separated a b (box_on w d p.0) (box_on w d p.1)
-
--- r says whether pair k is such a pair
-pub record Judged (w ps : List ℕ) (d a b n k : ℕ) (r : Bool) : Type 0 where
-  pub good : r ≡ true → PairOn w d a b n (two_numbers_at ps (4 * k))
-  pub bad : r ≡ false → PairOn w d a b n (two_numbers_at ps (4 * k)) → ⊥

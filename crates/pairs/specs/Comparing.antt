@@ -1,6 +1,8 @@
 -- Comparing two nodes of the tree on the slate, and listing what comes of it. Assumes nothing.
 use Rattle.std.specs.Prelude.{◌≡◌, List, [], ◌++◌, map, ℕ, zero, suc, ◌+◌, ◌*◌, ◌<◌, ◌≤◌, length}
 use Rattle.words.specs.Words.{Written}
+use Rattle.slate.specs.Columns.{FIRST, SECOND, SIDE}
+use Rattle.slate.specs.Slate.{cell}
 use Rattle.paper.specs.Lists.{joined}
 use Rattle.paper.specs.Tree.{Tree, leaf, fork}
 use Rattle.paper.specs.Pairs.{numbers}
@@ -39,7 +41,12 @@ pub record Faces (w : List ℕ) (d a b n i j : ℕ) : Type 0 where
   pub right : j < nodes_of n
   pub facing : Facing (grown_on w n) (node_on w n i) (node_on w n j)
 
--- they may be compared at a place: the place after the pairs is no large number
+-- the two comparisons that take the place of theirs: the node with the longer side is split, node j on a tie
+pub record Halves (w : List ℕ) (i j : ℕ) (r : (ℕ × ℕ) × (ℕ × ℕ)) : Type 0 where
+  pub first : cell w SIDE j < cell w SIDE i → r ≡ ((cell w FIRST i, j), (cell w SECOND i, j))
+  pub second : cell w SIDE i ≤ cell w SIDE j → r ≡ ((i, cell w FIRST j), (i, cell w SECOND j))
+
+-- two nodes may be compared at a place: the place after the pairs is no large number
 pub record Comparing (w : List ℕ) (d a b n i j at : ℕ) : Type 0 where
   pub faces : Faces w d a b n i j
   pub room : at + 4 * length (compared_on w d a b n i j) ≤ 1_099_511_627_776

@@ -6,7 +6,7 @@ use Rattle.paper.specs.Tree.{Tree, number, longest}
 use Rattle.paper.specs.Separation.{separated}
 use Rattle.paper.specs.Pairs.{pairs, numbers}
 use Rattle.slate.specs.Columns.{REACH, SIDE, LOW}
-use Rattle.slate.specs.Slate.{cell, large, Grid, Set, LargeSet, Kept}
+use Rattle.slate.specs.Slate.{cell, cells, Grid, Set, CellsSet, Kept}
 use Rattle.paper.specs.Record.{nodes_of, two_numbers}
 use Rattle.field.specs.Boxes.{Axes, box_on}
 use Rattle.field.specs.Reach.{reach}
@@ -28,7 +28,7 @@ grown_on w n = grow (tree_on w n) 0
 -- what comparisons ask of node k: SIDE has the longest side of its box, and REACH how far it reaches
 pub record Shape (w : List ℕ) (d a b k : ℕ) : Type 0 where
   pub side_is : cell w SIDE k ≡ longest (box_on w d k)
-  pub reach_is : large w REACH k ≡ reach a b (box_on w d k)
+  pub reach_is : cells 4 w REACH k ≡ reach a b (box_on w d k)
 
 abbrev pub Shapes : List ℕ → ℕ → ℕ → ℕ → ℕ → Type 0
 Shapes w d a b n = (k : ℕ) → k < nodes_of n → Shape w d a b k
@@ -44,7 +44,7 @@ pub record Boxes (w : List ℕ) (d n : ℕ) : Type 0 where
 pub record ShapePut (d a b k : ℕ) (old new : List ℕ) : Type 0 where
   pub between : List ℕ
   pub side_set : Set old between SIDE k (longest (box_on old d k))
-  pub reach_set : LargeSet between new REACH k (reach a b (box_on old d k))
+  pub reach_set : CellsSet 4 between new REACH k (reach a b (box_on old d k))
 
 -- the shapes of a tree are written, below the columns of the boxes
 pub record ShapesPut (d a b n : ℕ) (old new : List ℕ) : Type 0 where

@@ -1,17 +1,18 @@
 // Pairs: listing those of a tree, and the test that each pair of a record is separated.
 #![tactic(auto)]
 
-ghost use Rattle.std.specs.Prelude.{◌≡◌, false, [], ◌∷◌, ◌+◌, ◌*◌, ◌≤◌};
+ghost use Rattle.std.specs.Prelude.{◌≡◌, ◌↔◌, [], ◌∷◌, ◌+◌, ◌*◌, ◌<◌, ◌≤◌, IsTrue};
+ghost use Rattle.slate.specs.Slate.{Grid};
 ghost use Rattle.paper.specs.Field.{Ratio};
 ghost use Rattle.paper.specs.Record.{two_numbers_at};
 ghost use Rattle.field.specs.Found.{Finds};
 ghost use Rattle.paper.specs.Separation.{separated};
 ghost use Rattle.field.specs.Boxes.{Axes, NodeOn, box_on};
-ghost use Rattle.pairs.specs.Checking.{PairsIn, PairIn, PairOn, Judged};
+ghost use Rattle.pairs.specs.Checking.{PairsIn, PairIn, PairOn};
 ghost use Rattle.pairs.specs.Listing.{Boxes, ShapePut, ShapesPut, Listable, Listed, pairs_on};
-ghost use Rattle.pairs.specs.Comparing.{Laid, Faces, Comparing, compared_on, NodeListing, node_pairs};
+ghost use Rattle.pairs.specs.Comparing.{Laid, Faces, Halves, Comparing, compared_on, NodeListing, node_pairs};
 
-use field::Found;
+use tree::Node;
 
 // The least of m pairs that does not name two separated nodes of a tree of n holes.
 pub fn check_pairs(
@@ -22,18 +23,13 @@ pub fn check_pairs(
     b: usize,
     n: usize,
     m: usize,
-) -> Found
+) -> Option<usize>
     requires pairs_in { PairsIn work.now pairs.now n m }
     requires axes { Axes d }
     requires ratio { Ratio a b }
     ensures { Finds (λ k. PairOn work.now d a b n (two_numbers_at pairs.now (4 * k)) → ⊥) m result }
 {
-    for pair in 0..m {
-        if !check_pair(work, pairs, d, a, b, n, pair) {
-            return Found::At(pair);
-        }
-    }
-    Found::Nothing
+    (0..m).find(|&k| !check_pair(work, pairs, d, a, b, n, k))
 }
 
 // Whether pair k names two separated nodes.
@@ -41,31 +37,23 @@ fn check_pair(work: &[u8], pairs: &[u8], d: usize, a: usize, b: usize, n: usize,
     requires pair_in { PairIn work.now pairs.now n k }
     requires axes { Axes d }
     requires ratio { Ratio a b }
-    ensures { Judged work.now pairs.now d a b n k result }
+    ensures { IsTrue result ↔ PairOn work.now d a b n (two_numbers_at pairs.now (4 * k)) }
 {
-    let p = words::get16(pairs, 4 * k);
-    let q = words::get16(pairs, 4 * k + 2);
+    let (p, q) = paper::two_numbers_at(pairs, 4 * k);
     let count = 2 * n - 1;
-    if count <= p {
-        return false;
-    }
-    if count <= q {
-        return false;
-    }
-    field::is_separated(work, d, a, b, p, q)
+    p < count && q < count && field::is_separated(work, d, a, b, p, q)
 }
 
 // Writes a pair of numbers at a place of the output, where it fits, and gives the place after it.
-fn put_pair(out: &mut [u8], at: usize, i: usize, j: usize) -> usize
+fn put_pair(out: &mut [u8], at: usize, pair: (usize, usize)) -> usize
     requires { at + 4 ≤ 1099511627776 }
-    ensures { Laid ((i, j) ∷ []) at out.old out.new result }
+    ensures { Laid (pair ∷ []) at out.old out.new result }
 {
     let next = at + 4;
     if out.len() < next {
         return next;
     }
-    words::put16(out, at, i);
-    words::put16(out, at + 2, j);
+    paper::put_two_numbers(out, at, pair);
     next
 }
 
@@ -89,7 +77,7 @@ fn put_shape(work: &mut [u8], d: usize, a: usize, b: usize, k: usize)
     let side = field::longest_side(work, d, k);
     let reach = field::reach(work, d, a, b, k);
     slate::set_cell(work, slate::SIDE, k, side);
-    slate::set_large_cell(work, slate::REACH, k, reach);
+    slate::set_cells::<4>(work, slate::REACH, k, reach);
 }
 
 // Whether nodes i and j, which face each other, are separated: neither reaches further than D.
@@ -98,14 +86,31 @@ fn apart(work: &[u8], d: usize, a: usize, b: usize, n: usize, i: usize, j: usize
     ensures { result ≡ separated a b (box_on work.now d i) (box_on work.now d j) }
 {
     let far = field::distance(work, d, i, j);
-    if far < slate::large_cell(work, slate::REACH, i) {
-        return false;
-    }
-    slate::large_cell(work, slate::REACH, j) <= far
+    slate::cells::<4>(work, slate::REACH, i) <= far
+        && slate::cells::<4>(work, slate::REACH, j) <= far
 }
 
-// Compares node i with node j, and gives the place after the pairs that come of it.
-#[cycle(compare_split)]
+// The two comparisons that take the place of that of two nodes: the node with the longer side is split, the second on a tie, and each part is
+// compared with the other node.
+fn halves(work: &[u8], pair: (usize, usize)) -> ((usize, usize), (usize, usize))
+    requires { Grid work.now × (pair.0 < 2048) × (pair.1 < 2048) }
+    ensures { Halves work.now pair.0 pair.1 result }
+{
+    let (i, j) = pair;
+    if slate::cell(work, slate::SIDE, j) < slate::cell(work, slate::SIDE, i) {
+        (
+            (slate::cell(work, slate::FIRST, i), j),
+            (slate::cell(work, slate::SECOND, i), j),
+        )
+    } else {
+        (
+            (i, slate::cell(work, slate::FIRST, j)),
+            (i, slate::cell(work, slate::SECOND, j)),
+        )
+    }
+}
+
+// Compares two nodes, and gives the place after the pairs that come of it.
 fn compare(
     work: &[u8],
     out: &mut [u8],
@@ -113,49 +118,18 @@ fn compare(
     a: usize,
     b: usize,
     n: usize,
-    i: usize,
-    j: usize,
+    pair: (usize, usize),
     at: usize,
 ) -> usize
-    requires { Comparing work.now d a b n i j at }
-    ensures { Laid (compared_on work.now d a b n i j) at out.old out.new result }
+    requires { Comparing work.now d a b n pair.0 pair.1 at }
+    ensures { Laid (compared_on work.now d a b n pair.0 pair.1) at out.old out.new result }
 {
-    if apart(work, d, a, b, n, i, j) {
-        put_pair(out, at, i, j)
-    } else {
-        split(work, out, d, a, b, n, i, j, at)
+    if apart(work, d, a, b, n, pair.0, pair.1) {
+        return put_pair(out, at, pair);
     }
-}
-
-// The same of two nodes that are not separated: the node with the longer side is split, node j on a tie, and each part is compared with the
-// other node.
-#[cycle(compare_split)]
-fn split(
-    work: &[u8],
-    out: &mut [u8],
-    d: usize,
-    a: usize,
-    b: usize,
-    n: usize,
-    i: usize,
-    j: usize,
-    at: usize,
-) -> usize
-    requires comparing { Comparing work.now d a b n i j at }
-    requires j_value { separated a b (box_on work.now d i) (box_on work.now d j) ≡ false }
-    ensures { Laid (compared_on work.now d a b n i j) at out.old out.new result }
-{
-    if slate::cell(work, slate::SIDE, j) < slate::cell(work, slate::SIDE, i) {
-        let first = slate::cell(work, slate::FIRST, i);
-        let second = slate::cell(work, slate::SECOND, i);
-        let middle = compare(work, out, d, a, b, n, first, j, at);
-        compare(work, out, d, a, b, n, second, j, middle)
-    } else {
-        let first = slate::cell(work, slate::FIRST, j);
-        let second = slate::cell(work, slate::SECOND, j);
-        let middle = compare(work, out, d, a, b, n, i, first, at);
-        compare(work, out, d, a, b, n, i, second, middle)
-    }
+    let (one, two) = halves(work, pair);
+    let middle = compare(work, out, d, a, b, n, one, at);
+    compare(work, out, d, a, b, n, two, middle)
 }
 
 // Compares the two parts of node k; a leaf has none.
@@ -172,12 +146,10 @@ fn list_node(
     requires { NodeListing work.now d a b n k at }
     ensures { Laid (node_pairs work.now d a b n k) at out.old out.new result }
 {
-    let first = slate::cell(work, slate::FIRST, k);
-    if first == 65535 {
-        return at;
+    match tree::node_at(work, k) {
+        Node::Leaf(_) => at,
+        Node::Fork(one, two) => compare(work, out, d, a, b, n, (one, two), at),
     }
-    let second = slate::cell(work, slate::SECOND, k);
-    compare(work, out, d, a, b, n, first, second, at)
 }
 
 // Lists the pairs of the tree on the slate from the place start of the output on, each where it fits, and gives the place after the last: an empty

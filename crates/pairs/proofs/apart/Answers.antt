@@ -1,21 +1,13 @@
 -- The first node is asked how far it reaches, and then the second. Assumes nothing.
-use borrow.Author.Rules.{rules}
-use Rattle.pairs.proofs.Parted.{node_left, node_right, near_first, far-second}
+use Rattle.std.proofs.Common.{arith}
+use Rattle.std.proofs.lemmas.Grind.{common_steps}
+use Rattle.pairs.proofs.Parted.{near_first, far-second}
 use Rattle.pairs.proofs.apart.Goals as goal
 
-ruleset all = (node_left, node_right, rules)
+pub returns-then-cells-far : goal.returns-then-cells-far
+returns-then-cells-far c =
+    far-second c.requires c.distance-far.ensures.0 c.cells.ensures (omega arith) c.cells-then-cells-far.ensures
 
-pub distance-far-requires : goal.distance-far-requires
-distance-far-requires c = search all
-
-pub large_cell-requires : goal.large_cell-requires
-large_cell-requires c = search all
-
-pub returns-then-far-large_cell : goal.returns-then-far-large_cell
-returns-then-far-large_cell c = search near_first
-
-pub large_cell-requires-2 : goal.large_cell-requires-2
-large_cell-requires-2 c = search all
-
-pub returns : goal.returns
-returns c = far-second c.requires (search rules) c.large_cell.ensures (search rules) c.large_cell-2.ensures
+pub returns-else-cells-far : goal.returns-else-cells-far
+returns-else-cells-far c =
+    let e = near_first c.requires c.distance-far.ensures.0 c.cells.ensures (omega arith) in grind (arith, common_steps)
