@@ -1,61 +1,40 @@
 -- The laws of `specs/Bits.antt`. The number 2 ^ hi - 2 ^ lo has the bits from lo up to hi and no other; two numbers with no bit in common add up bit
 -- by bit. Assumes nothing.
-use mathlib.Core.Path.{◌≡◌, sym, ◌∙◌}
-use Prim.Native.Nat.{ℕ, suc, ◌+◌, ◌-◌, ◌*◌, ◌/◌, ◌%◌, ◌^◌, ◌<◌, ◌≤◌, min, max}
-use native.Mathlib.Nat.{mul-div_cancel, mul-mod_left, pow-suc, div-eq_of_lt}
-use native.Mathlib.Omega.{arith}
+use Rattle.std.proofs.Common.{◌≡◌, sym, ◌∙◌, ℕ, suc, ◌+◌, ◌-◌, ◌*◌, ◌/◌, ◌%◌, ◌^◌, ◌<◌, ◌≤◌, min, max, mul-div_cancel, pow-suc, arith, pow_pos, pow-add, pow_mono, shr-shr, bit_and, bit_or, inl, inr}
+use Rattle.std.proofs.lemmas.Bool.{cases_lt}
+use Rattle.std.proofs.lemmas.Bool.Decides.{nat_tests}
+use native.Mathlib.Nat.{mul-mod_left, div-eq_of_lt}
 use lib.Arith.{digits_mod}
-use lib.Dec.{leb, ltb}
-use lib.Pow.{pow_pos, pow-add, pow_mono, shr-shr, high, ones_lt, ones_split, high_ones}
-use lib.Bits.{bit_and, bit_or, and_step, or_step, and_shr, or_shr, or_disjoint, or_lt}
-use borrow.Author.Tests.{le-leb, lt-leb, lt-ltb, le-ltb, leb-true, leb-false, ltb-true, ltb-false}
-use Rattle.paper.proofs.ListLaws.{cases}
+use lib.Pow.{high, ones_lt, ones_split, high_ones}
+use lib.Bits.{and_step, or_step, and_shr, or_shr, or_disjoint, or_lt}
 use Rattle.cover.specs.Bits.{bit, between}
 
 -- ---- stretches of numbers
 
-pub between_in : (lo hi j : ℕ) → lo ≤ j → j < hi → between lo hi j ≡ 1
-unfolding between
-between_in lo hi j a b = rw (le-leb lo j a, lt-ltb j hi b)
+module _ (lo hi j : ℕ) where
+  pub between_in : lo ≤ j → j < hi → between lo hi j ≡ 1
+  unfolding between
+  between_in a b = grind (arith, nat_tests)
 
-pub between-below : (lo hi j : ℕ) → j < lo → between lo hi j ≡ 0
-unfolding between
-between-below lo hi j a = rw (lt-leb lo j a)
+  pub between_none : (lo ≤ j → j < hi → ⊥) → between lo hi j ≡ 0
+  unfolding between
+  between_none h = grind (arith, nat_tests)
 
-pub between_above : (lo hi j : ℕ) → hi ≤ j → between lo hi j ≡ 0
-unfolding between
-between_above lo hi j a = cases (leb lo j) (λ e. rw (e, le-ltb j hi a)) (λ e. rw e)
-
--- inside the stretch, or not
-pub inside : {P : Type 0} (lo hi j : ℕ) → (lo ≤ j → j < hi → P) → ((lo ≤ j → j < hi → ⊥) → between lo hi j ≡ 0 → P) → P
-inside lo hi j f g =
-    cases (leb lo j)
-    (λ e.
-    cases (ltb j hi)
-    (λ h. f (leb-true lo j e) (ltb-true j hi h))
-    (λ h. let y = ltb-false j hi h in g (omega arith) (between_above lo hi j y)))
-    (λ e. let x = leb-false lo j e in g (omega arith) (between-below lo hi j x))
-
-pub between_none : (lo hi j : ℕ) → (lo ≤ j → j < hi → ⊥) → between lo hi j ≡ 0
-between_none lo hi j h = inside lo hi j (λ a b. absurd (h a b)) (λ o z. z)
+  -- inside the stretch, or not
+  pub inside : {P : Type 0} → (lo ≤ j → j < hi → P) → ((lo ≤ j → j < hi → ⊥) → between lo hi j ≡ 0 → P) → P
+  inside f g =
+      let out = λ (o : lo ≤ j → j < hi → ⊥). g o (between_none o) in
+      elim (cases_lt j lo) [ inl a ↦ out (omega arith) | inr a ↦ elim (cases_lt j hi) [ inl b ↦ f a b | inr b ↦ out (omega arith) ] ]
 
 -- two that say the same; one after the other
 pub between-same : (lo hi j a b k : ℕ) → (lo ≤ j → j < hi → (a ≤ k) × (k < b)) → (a ≤ k → k < b → (lo ≤ j) × (j < hi))
     → between lo hi j ≡ between a b k
-between-same lo hi j a b k f g =
-    inside lo hi j
-    (λ x y. let z = f x y in between_in lo hi j x y ∙ sym (between_in a b k z.0 z.1))
-    (λ o z. z ∙ sym (between_none a b k (λ p q. let y = g p q in o y.0 y.1)))
+unfolding between
+between-same lo hi j a b k f g = grind (arith, nat_tests)
 
 pub between_more : (lo mid hi j : ℕ) → lo ≤ mid → mid ≤ hi → between lo mid j + between mid hi j ≡ between lo hi j
-between_more lo mid hi j l h =
-    cases (ltb j mid)
-    (λ e.
-    let x = ltb-true j mid e in
-    omega (arith, between-same lo mid j lo hi j (λ p q. (p, omega arith)) (λ p q. (p, x)), between-below mid hi j x))
-    (λ e.
-    let x = ltb-false j mid e in
-    omega (arith, between-same mid hi j lo hi j (λ p q. (omega arith, q)) (λ p q. (x, q)), between_above lo mid j x))
+unfolding between
+between_more lo mid hi j l h = grind (arith, nat_tests)
 
 -- ---- the bits of what `&` and a sum give
 
@@ -103,17 +82,18 @@ shifted_below a k j l =
 mask_shifted : (lo i j : ℕ) → bit (2 ^ (i + lo) - 2 ^ lo) j ≡ between lo (i + lo) j
 mask_shifted lo i j =
     rw (high_ones i lo)
-    (cases (ltb j lo)
-    (λ x. let h = ltb-true j lo x in shifted_below (2 ^ i - 1) lo j h ∙ sym (between-below lo (i + lo) j h))
-    (λ x.
-    let h = ltb-false j lo x in
-    let t : ℕ = j - lo in
-    let e : lo + t ≡ j = omega arith in
-    let f : bit ((2 ^ i - 1) * 2 ^ lo) j ≡ bit (2 ^ i - 1) t = rw e at (shifted_above (2 ^ i - 1) lo t) in
-    f
-    ∙ cases (ltb t i)
-    (λ y. let z = ltb-true t i y in ones_bit i t z ∙ sym (between_in lo (i + lo) j h (omega arith)))
-    (λ y. let z = ltb-false t i y in ones_above i t z ∙ sym (between_above lo (i + lo) j (omega arith)))))
+    (elim (cases_lt j lo) [
+      | inl h ↦ shifted_below (2 ^ i - 1) lo j h ∙ sym (between_none lo (i + lo) j (omega arith))
+      | inr h ↦
+          let t : ℕ = j - lo in
+          let e : lo + t ≡ j = omega arith in
+          let f : bit ((2 ^ i - 1) * 2 ^ lo) j ≡ bit (2 ^ i - 1) t = rw e at (shifted_above (2 ^ i - 1) lo t) in
+          f
+          ∙ elim (cases_lt t i) [
+            | inl z ↦ ones_bit i t z ∙ sym (between_in lo (i + lo) j h (omega arith))
+            | inr z ↦ ones_above i t z ∙ sym (between_none lo (i + lo) j (omega arith))
+          ]
+    ])
 
 mask_bit : (lo hi j : ℕ) → lo ≤ hi → bit (2 ^ hi - 2 ^ lo) j ≡ between lo hi j
 mask_bit lo hi j l = let e : hi - lo + lo ≡ hi = omega arith in rw e at (mask_shifted lo (hi - lo) j)

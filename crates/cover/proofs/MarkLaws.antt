@@ -1,19 +1,13 @@
 -- The laws of `specs/Marks.antt`. A row that is given up says whatever is wanted, and one that a step does not touch says what it said; so marks add up
 -- step by step, rank by rank. Assumes nothing.
-use mathlib.Core.Path.{◌≡◌, refl, sym, ◌∙◌}
-use mathlib.Core.List.{List}
-use Prim.Native.Nat.{ℕ, ◌+◌, ◌/◌, ◌<◌, ◌≤◌}
-use native.Mathlib.Nat.{add_assoc}
-use native.Mathlib.Omega.{arith}
-use lib.Dec.{eqb}
-use borrow.Author.Tests.{eqb-true, eqb-false}
+use Rattle.std.proofs.Common.{◌≡◌, refl, sym, ◌∙◌, List, ℕ, ◌+◌, ◌*◌, ◌/◌, ◌<◌, ◌≤◌, add_assoc, arith, inl, inr}
+use Rattle.std.proofs.lemmas.Bool.{cases_eq}
 use Rattle.words.specs.Area.{word}
-use Rattle.slate.specs.Columns.{SKIP}
-use Rattle.slate.specs.Slate.{cell, Set}
-use Rattle.slate.proofs.Frames.{set-cell, kept_none, kept_both}
-use Rattle.paper.proofs.ListLaws.{cases}
+use Rattle.slate.specs.Columns.{MARKS, SKIP}
+use Rattle.slate.specs.Slate.{cell, Set, Kept}
+use Rattle.slate.proofs.Frames.{set-cell, kept_none, kept_wider, kept_both}
 use Rattle.cover.specs.Marks.{marked, row_at, Block, Skips, Says, Marked, RowsMarked}
-use Rattle.cover.proofs.BitLaws.{between_none, between_more}
+use Rattle.cover.proofs.BitLaws.{inside, between_in, between_more}
 
 -- ---- one row
 
@@ -38,22 +32,21 @@ skips_kept h s = record { gone = λ x i a b c d. rw (h i d) (s.gone x i a b (ome
 module _ {old new : List ℕ} {v : ℕ} (lo : ℕ) (t : Set old new SKIP lo v) (p : 0 < v) where
   pub still : (i : ℕ) → 0 < cell old SKIP i → 0 < cell new SKIP i
   still i l =
-      cases (eqb i lo)
-      (λ e. let q = eqb-true i lo e in rw q (omega (arith, t.here)))
-      (λ e. let q = eqb-false i lo e in omega (arith, set-cell t SKIP i (omega arith)))
+      elim (cases_eq i lo) [ inl q ↦ rw q (omega (arith, t.here)) | inr q ↦ omega (arith, set-cell t SKIP i (omega arith)) ]
 
   pub skips_set : {start end : ℕ} → ((i : ℕ) → lo < i → i < lo + v → i < end → 0 < cell old SKIP i) → Skips old start end → Skips new start end
   skips_set h s =
       record {
         gone = λ x i a b c d.
-            cases (eqb i lo)
-            (λ e. let q = eqb-true i lo e in rw q (omega (arith, t.here)))
-            (λ e.
-            let q = eqb-false i lo e in
-            still i
-            (cases (eqb x lo)
-            (λ f. let u = eqb-true x lo f in h i (omega arith) (let z : cell new SKIP x ≡ v = rw u t.here in omega arith) d)
-            (λ f. let u = eqb-false x lo f in s.gone x i a b (omega (arith, set-cell t SKIP x (omega arith))) d)));
+            elim (cases_eq i lo) [
+              | inl q ↦ rw q (omega (arith, t.here))
+              | inr q ↦
+                  still i
+                  (elim (cases_eq x lo) [
+                    | inl u ↦ h i (omega arith) (let z : cell new SKIP x ≡ v = rw u t.here in omega arith) d
+                    | inr u ↦ s.gone x i a b (omega (arith, set-cell t SKIP x (omega arith))) d
+                  ])
+            ];
       }
 
 -- ---- the rows of a block
@@ -91,11 +84,25 @@ module _ {start end : ℕ} where
 
 -- ---- ranks one after the other
 
-pub rows_none : {w : List ℕ} {start lo : ℕ} {g : ℕ → ℕ} → RowsMarked start lo lo g w w
-rows_none {lo} {g} =
+-- the rows of ranks lo up to hi say g more, and no other row is changed
+pub rows_marked : {old new : List ℕ} {start lo hi : ℕ} {g : ℕ → ℕ} → Kept old new (2_048 * MARKS) (2_048 * SKIP + hi)
+    → ((end : ℕ) → start ≤ lo → Skips old start end → Skips new start end)
+    → ((end i : ℕ) → start ≤ lo → Skips old start end → lo ≤ i → i < hi → i < end → (f : ℕ → ℕ) → Says old start i f → Says new start i (λ r. f r + g r))
+    → ((i : ℕ) → (lo ≤ i → i < hi → ⊥)
+    → (cell new SKIP i ≡ cell old SKIP i)
+    × (start ≤ i → i < start + 256 → (r : ℕ) → r < 1_024 → word new (row_at start i + r / 16) ≡ word old (row_at start i + r / 16)))
+    → RowsMarked start lo hi g old new
+rows_marked {lo} {hi} k s h o =
     record {
-      len = refl;
-      block = λ end b s l h. marked-none (λ x r c d. let z = between_none lo lo x (omega arith) in rw z (omega arith));
+      len = k.len;
+      block = λ end b t l m. record {
+        kept = kept_wider k (omega arith) (omega arith);
+        skips = s end l;
+        rows = λ i c d f u.
+            inside lo hi i
+            (λ p q. let z = between_in lo hi i p q in says_kept refl (λ r n. refl) (λ r. rw z (omega arith)) (h end i l t p q d f u))
+            (λ p z. says_kept (o i p).0 ((o i p).1 c (omega arith)) (λ r. rw z (omega arith)) u);
+      };
     }
 
 pub rows_more : {a b c : List ℕ} {start lo mid hi : ℕ} {g : ℕ → ℕ} → RowsMarked start lo mid g a b → RowsMarked start mid hi g b c → lo ≤ mid

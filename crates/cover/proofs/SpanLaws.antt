@@ -1,11 +1,6 @@
 -- The laws of `specs/Spans.antt`. A step that changes only columns from MARKS on leaves spans, ranks and so the coverings; and what
 -- `coverings` counts in the list of pairs is the sum, pair by pair, of what each covers. Assumes nothing.
-use mathlib.Core.Path.{◌≡◌, refl, sym, ◌∙◌}
-use mathlib.Core.Bool.{Bool, true, false}
-use mathlib.Core.List.{List, map}
-use Prim.Native.Nat.{ℕ, zero, suc, ◌+◌, ◌*◌, ◌<◌, ◌≤◌}
-use native.Mathlib.Nat.{add-zero, zero-add}
-use native.Mathlib.Omega.{arith}
+use Rattle.std.proofs.Common.{◌≡◌, refl, sym, ◌∙◌, Bool, true, false, ◌&&◌, ◌||◌, List, map, ℕ, zero, suc, ◌+◌, ◌*◌, ◌<◌, ◌≤◌, add-zero, zero-add, arith, leb, ltb, add-one}
 use Rattle.slate.specs.Columns.{HOLES, FROM, RANK, MARKS}
 use Rattle.slate.specs.Slate.{cell, Kept}
 use Rattle.slate.proofs.Frames.{kept_cell}
@@ -14,7 +9,8 @@ use Rattle.paper.specs.Field.{list_at}
 use Rattle.theory.specs.Trees.{one_if}
 use Rattle.theory.proofs.Sums.{sum, sum_same}
 use Rattle.cover.specs.Spans.{spans, covers_on, coverings, Ready}
-use Rattle.cover.specs.Rows.{pair_at, meeting, meetings, PairSpans}
+use Rattle.cover.specs.Bits.{between}
+use Rattle.cover.specs.Rows.{pair_at, meeting, meetings, SpansOf, PairSpans}
 
 -- ---- the sum, pair by pair
 
@@ -50,6 +46,28 @@ one_pair {k} g l =
       apart = g.apart k l;
     }
 
+-- one of two ways, not both
+one_way : (a b c d : Bool) → (a ≡ true → d ≡ true → ⊥) → one_if (a && b || c && d) ≡ one_if a * one_if b + one_if d * one_if c
+one_way true b c true h = absurd (h refl refl)
+one_way true true c false h = omega arith
+one_way true false true false h = omega arith
+one_way true false false false h = omega arith
+one_way false b true true h = omega arith
+one_way false b true false h = omega arith
+one_way false b false d h = omega arith
+
+-- no rank is in both of its spans, so that of ranks x and r it covers the holes in one way at most
+module _ {w ps : List ℕ} {k a b d e : ℕ} (g : PairSpans w ps k) (s : SpansOf w ps k a b d e) where
+  pub spans_apart : (r : ℕ) → (leb a r && ltb r b) ≡ true → (leb d r && ltb r e) ≡ true → ⊥
+  unfolding spans
+  spans_apart r y z = g.apart r (rw (← s.first.end, ← s.first.from) y) (rw (← s.second.end, ← s.second.from) z)
+
+  pub meeting-is : (x r : ℕ) → meeting w x (pair_at ps k) r ≡ between a b x * between d e r + between d e x * between a b r
+  unfolding meeting spans between
+  meeting-is x r =
+      rw (← s.first.end, ← s.first.from, ← s.second.end, ← s.second.from)
+      (one_way (leb a x && ltb x b) (leb d r && ltb r e) (leb a r && ltb r b) (leb d x && ltb x e) (spans_apart x))
+
 -- ---- a step that changes columns from MARKS on
 
 module _ {old new : List ℕ} {hi : ℕ} (kept : Kept old new (2_048 * MARKS) hi) where
@@ -79,7 +97,7 @@ module _ {old new : List ℕ} {hi : ℕ} (kept : Kept old new (2_048 * MARKS) hi
           apart = λ k l r a b. g.apart k l r (sym (left-kept k r l) ∙ a) (sym (right_kept k r l) ∙ b);
         }
 
-    pub meeting-kept : (k x r : ℕ) → k < m → meeting new x (pair_at ps k) r ≡ meeting old x (pair_at ps k) r
+    meeting-kept : (k x r : ℕ) → k < m → meeting new x (pair_at ps k) r ≡ meeting old x (pair_at ps k) r
     unfolding meeting
     meeting-kept k x r l = rw (left-kept k x l, right_kept k x l, left-kept k r l, right_kept k r l)
 
@@ -88,6 +106,11 @@ module _ {old new : List ℕ} {hi : ℕ} (kept : Kept old new (2_048 * MARKS) hi
     meetings-kept k x r l =
         sum_same (λ j. meeting new x (pair_at ps j) r) (λ j. meeting old x (pair_at ps j) r) k
         (λ j b. meeting-kept j x r (omega arith))
+
+    -- one more pair, what it covers read after the step
+    pub meetings-more : (k x r : ℕ) → k < m → meetings old x ps k r + meeting new x (pair_at ps k) r ≡ meetings old x ps (k + 1) r
+    unfolding meetings
+    meetings-more k x r l = rw (add-one, meeting-kept k x r l)
 
     pub coverings-kept : (i j : ℕ) → i < n → j < n → coverings new ps m (i, j) ≡ coverings old ps m (i, j)
     coverings-kept i j a b =

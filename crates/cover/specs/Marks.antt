@@ -6,7 +6,7 @@ use Rattle.slate.specs.Columns.{HOLES, FROM, MARKS, SKIP}
 use Rattle.slate.specs.Slate.{cell, Grid, Kept}
 use Rattle.cover.specs.Bits.{bit, between}
 use Rattle.cover.specs.Spans.{Ready}
-use Rattle.cover.specs.Rows.{pair_at, spanning, meeting, meetings, SpanOn, PairSpans}
+use Rattle.cover.specs.Rows.{pair_at, meeting, meetings, PairSpans}
 
 -- ---- a word, and a row: bit r of a row is bit r % 16 of its word r / 16
 
@@ -39,12 +39,6 @@ pub record RunIn (w : List ℕ) (at lo hi : ℕ) : Type 0 where
   pub there : at + 64 ≤ 32_768
   pub order : lo ≤ hi
   pub few : hi ≤ 1_024
-
--- e is after bit c, in its word, and no further than hi
-pub record StopsAt (c hi e : ℕ) : Type 0 where
-  pub after : c < e
-  pub until : e ≤ hi
-  pub word : e ≤ 16 * (c / 16) + 16
 
 pub record RunSet (at lo hi : ℕ) (old new : List ℕ) (r : Bool) : Type 0 where
   pub kept : Kept old new at (at + 64)
@@ -123,12 +117,9 @@ pub record Advanced (start lo hi c d : ℕ) (old new : List ℕ) (x : ℕ) : Typ
   pub until : x ≤ hi
   pub rows : RowsMarked start lo x (between c d) old new
 
--- 1 where rank i is from x up to y and rank r from c up to d, else 0; 1 where rank x is in the span of node p and rank r in that of node q, else 0
+-- 1 where rank i is from x up to y and rank r from c up to d, else 0
 unfoldable pub crossing : ℕ → ℕ → ℕ → ℕ → ℕ → ℕ → ℕ
 crossing x y c d i r = between x y i * between c d r
-
-unfoldable pub spanned : List ℕ → ℕ → ℕ → ℕ → ℕ → ℕ
-spanned w p q x r = spanning w p x * spanning w q r
 
 -- 1 where pair k covers the holes of ranks x and r, else 0; how many of the first k pairs do
 unfoldable pub by_pair : List ℕ → List ℕ → ℕ → ℕ → ℕ → ℕ
@@ -143,14 +134,6 @@ pub record BlockIn (w : List ℕ) (start end c d : ℕ) : Type 0 where
   pub skips : Skips w start end
   pub order : c ≤ d
   pub columns : d ≤ 1_024
-
--- node p has a span, node q has one, and both end by 1,024
-pub record SpansIn (w : List ℕ) (start end p q : ℕ) : Type 0 where
-  pub block : Block w start end
-  pub skips : Skips w start end
-  pub first : SpanOn w p
-  pub second : SpanOn w q
-  pub ends : cell w FROM q + cell w HOLES q ≤ 1_024
 
 -- pair k, and m pairs of a record of n holes
 pub record PairMarking (w ps : List ℕ) (start end k : ℕ) : Type 0 where

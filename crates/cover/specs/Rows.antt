@@ -1,9 +1,9 @@
 -- One row of the covering: for a hole, how many pairs cover it and the hole of each rank. A pair that has it in one span covers it with the ranks
 -- of the other span: that span is one more in MARKS where it starts and one more in TALLY where it ends, so that at each rank as many
 -- spans are open as more have started up to it than have ended. Assumes nothing.
-use Rattle.std.specs.Prelude.{◌≡◌, true, ◌&&◌, ◌||◌, List, ℕ, ◌+◌, ◌*◌, ◌<◌, ◌≤◌, min, ltb, length}
-use Rattle.slate.specs.Columns.{RANK, MARKS, SCRATCH, TALLY, LOW}
-use Rattle.slate.specs.Slate.{cell, wide, Grid, Kept}
+use Rattle.std.specs.Prelude.{◌≡◌, true, ◌&&◌, ◌||◌, List, ℕ, ◌+◌, ◌*◌, ◌<◌, ◌≤◌, min, ltb, length, Option, MatchOption}
+use Rattle.slate.specs.Columns.{HOLES, FROM, RANK, MARKS, SCRATCH, TALLY, LOW}
+use Rattle.slate.specs.Slate.{cell, cells, Grid, Kept}
 use Rattle.paper.specs.Record.{two_numbers_at}
 use Rattle.theory.specs.Trees.{one_if}
 use Rattle.theory.proofs.Sums.{sum}
@@ -19,16 +19,13 @@ pair_at ps k = two_numbers_at ps (4 * k)
 
 -- the wide cells of column c below rank r, added
 unfoldable pub upto : List ℕ → ℕ → ℕ → ℕ
-upto w c r = sum (wide w c) r
+upto w c r = sum (cells 2 w c) r
 
 -- of the spans, x more start below rank r than end there
 pub record Open (w : List ℕ) (r x : ℕ) : Type 0 where
   pub is : upto w MARKS r ≡ upto w TALLY r + x
 
--- 1 where node k's span has rank r, else 0; 1 where the pair covers the holes of ranks x and r, else 0
-unfoldable pub spanning : List ℕ → ℕ → ℕ → ℕ
-spanning w k r = one_if (spans w k r)
-
+-- 1 where the pair covers the holes of ranks x and r, else 0
 unfoldable pub meeting : List ℕ → ℕ → ℕ × ℕ → ℕ → ℕ
 meeting w x p r = one_if (spans w p.0 x && spans w p.1 r || spans w p.0 r && spans w p.1 x)
 
@@ -40,6 +37,16 @@ meetings w x ps k r = sum (λ j. meeting w x (pair_at ps j) r) k
 pub record SpanOn (w : List ℕ) (k : ℕ) : Type 0 where
   pub grid : Grid w
   pub row : k < 2_048
+
+-- node k's span is from a up to, not including, e
+pub record SpanOf (w : List ℕ) (k a e : ℕ) : Type 0 where
+  pub from : a ≡ cell w FROM k
+  pub end : e ≡ cell w FROM k + cell w HOLES k
+
+-- the spans of pair k's nodes are from a up to b and from d up to e
+pub record SpansOf (w ps : List ℕ) (k a b d e : ℕ) : Type 0 where
+  pub first : SpanOf w (pair_at ps k).0 a b
+  pub second : SpanOf w (pair_at ps k).1 d e
 
 -- pair k names two nodes, and no rank is in the spans of both
 pub record PairSpans (w ps : List ℕ) (k : ℕ) : Type 0 where
@@ -120,3 +127,18 @@ pub record RowOn (w ps : List ℕ) (n m i : ℕ) : Type 0 where
 pub record Row (ps : List ℕ) (n m i : ℕ) (old new : List ℕ) : Type 0 where
   pub kept : Beside old new
   pub row : RowOn new ps n m i
+
+-- each of n holes has a rank
+pub record Ranked (w : List ℕ) (n : ℕ) : Type 0 where
+  pub grid : Grid w
+  pub few : n ≤ 1_024
+  pub ranks : (h : ℕ) → h < n → cell w RANK h < n
+
+-- what SCRATCH says for the rank of hole j; the least hole after hole i for whose rank it does not say 1
+abbrev pub said : List ℕ → ℕ → ℕ
+said w j = cell w SCRATCH (cell w RANK j)
+
+abbrev pub Partner : List ℕ → ℕ → ℕ → Option ℕ → Type 0
+Partner w n i r =
+    MatchOption r ((j : ℕ) → i + 1 ≤ j → j < n → said w j ≡ 1)
+    (λ j. (i + 1 ≤ j) × (j < n) × (said w j ≡ 1 → ⊥) × ((k : ℕ) → i + 1 ≤ k → k < j → said w k ≡ 1))

@@ -1,6 +1,6 @@
 -- Covering by ranks: a node's holes are a stretch of the ranks, so that a hole is under a node exactly where its rank is in the node's span.
 -- Assumes nothing.
-use Rattle.std.specs.Prelude.{◌≡◌, List, ℕ, ◌+◌, ◌*◌, ◌<◌, ◌≤◌, leb, ltb, length}
+use Rattle.std.specs.Prelude.{◌≡◌, List, ℕ, ◌+◌, ◌*◌, ◌<◌, ◌≤◌, leb, ltb, length, Option, Some, None}
 use mathlib.Core.Bool.{Bool, ◌&&◌, ◌||◌}
 use Rattle.words.specs.Area.{word}
 use Rattle.slate.specs.Columns.{HOLES, FROM, RANK, MARKS}
@@ -10,8 +10,6 @@ use Rattle.paper.specs.Field.{list_at}
 use Rattle.paper.specs.Record.{nodes_of, two_numbers_at}
 use Rattle.paper.specs.Refusals.{LeastTwo}
 use Rattle.pairs.specs.Checking.{PairsIn}
-use Rattle.cover.specs.declared.Two.{Two}
-use Rattle.cover.specs.declared.Two.TheVariants.{Both, Neither}
 
 -- rank r is in the span of node k
 unfoldable pub spans : List ℕ → ℕ → ℕ → Bool
@@ -41,12 +39,12 @@ pub record Ready (w ps : List ℕ) (n m : ℕ) : Type 0 where
       → spans w (two_numbers_at ps (4 * k)).1 r ≡ mathlib.Core.Bool.true → ⊥
 
 -- what the search for two holes finds
-abbrev pub FindsTwo : (ℕ × ℕ → Type 0) → ℕ → Two → Type 0
-FindsTwo P n (Both i j) = LeastTwo P n (i, j)
-FindsTwo P n Neither = (i j : ℕ) → i < j → j < n → P (i, j) → ⊥
+abbrev pub FindsTwo : (ℕ × ℕ → Type 0) → ℕ → Option (ℕ × ℕ) → Type 0
+FindsTwo P n (Some (i, j)) = LeastTwo P n (i, j)
+FindsTwo P n None = (i j : ℕ) → i < j → j < n → P (i, j) → ⊥
 
 -- the least two holes that are not covered exactly once. Beside the columns from MARKS on nothing has changed
-pub record Covering (ps : List ℕ) (n m : ℕ) (old new : List ℕ) (r : Two) : Type 0 where
+pub record Covering (ps : List ℕ) (n m : ℕ) (old new : List ℕ) (r : Option (ℕ × ℕ)) : Type 0 where
   pub len : length new ≡ length old
   pub found : FindsTwo (λ q. coverings old ps m q ≡ 1 → ⊥) n r
   pub rest : (i : ℕ) → (2_048 * MARKS ≤ i → i < 32_768 → ⊥) → word new i ≡ word old i

@@ -2,32 +2,61 @@
 // A filter passes over the holes that are covered exactly once with every other; any other hole costs at most m + n steps, whatever the record says.
 #![tactic(auto)]
 
-ghost use Rattle.std.specs.Prelude.{◌≡◌, ◌+◌, ◌-◌, ◌^◌, ◌<◌, ◌≤◌, min};
-ghost use Rattle.cover.specs.Spans.{spans, Ready, Covering};
-ghost use Rattle.cover.specs.Rows.{pair_at, spanning, meeting, Open, SpanOn, PairSpans, Counting, OneMore, Ranks, Emptied};
-ghost use Rattle.cover.specs.Rows.{Uncounted, Tallying, Tallied, Spreading, Opening, Counted, Spread, Row};
+ghost use Rattle.std.specs.Prelude.{◌≡◌, ◌&&◌, ◌+◌, ◌-◌, ◌*◌, ◌^◌, ◌<◌, ◌≤◌, leb, ltb, min, max};
+ghost use Rattle.cover.specs.Spans.{Ready, Covering};
+ghost use Rattle.cover.specs.Rows.{pair_at, meeting, Open, SpanOn, SpanOf, SpansOf, PairSpans, Counting, OneMore, Ranks, Emptied};
+ghost use Rattle.cover.specs.Rows.{Uncounted, Tallying, Tallied, Spreading, Opening, Counted, Spread, Row, Ranked, Partner};
 ghost use Rattle.cover.specs.Bits.{between};
-ghost use Rattle.cover.specs.Marks.{BitsIn, BitsSet, BitsFull, RunIn, StopsAt, RunSet, RunFull, RowIn, RowsIn, RanksIn, BlockIn};
-ghost use Rattle.cover.specs.Marks.{Marked, RowsMarked, Gone, Passed, Advanced, SpansIn, PairMarking, PairsMarking};
-ghost use Rattle.cover.specs.Marks.{crossing, spanned, by_pair, by_pairs, Block, Blank, Judging, JudgingAll, Judged, Sifted, Goods};
+ghost use Rattle.cover.specs.Marks.{row_at, BitsIn, BitsSet, BitsFull, RunIn, RunSet, RunFull, RowIn, RowsIn, RanksIn, BlockIn};
+ghost use Rattle.cover.specs.Marks.{Marked, RowsMarked, Gone, Passed, Advanced, PairMarking, PairsMarking};
+ghost use Rattle.cover.specs.Marks.{crossing, by_pair, by_pairs, Block, Blank, Judging, JudgingAll, Judged, Sifted, Goods};
 
-// What a search for two holes finds.
+// A stretch of ranks, or of bits: from `from` up to, not including, `end`.
 #[derive(Clone, Copy)]
-pub enum Two {
-    Both(usize, usize),
-    Neither,
+struct Span {
+    from: usize,
+    end: usize,
 }
 
-// Whether rank r is in the span of node k.
-fn in_span(work: &[u8], k: usize, r: usize) -> bool
+impl Span {
+    // Whether x is in it.
+    fn contains(self, x: usize) -> bool
+        ensures { result ≡ (leb self.from x && ltb x self.end) }
+    {
+        self.from <= x && x < self.end
+    }
+
+    // What it and another have in common.
+    fn meet(self, other: Span) -> Span
+        ensures from { result.from ≡ max self.from other.from }
+        ensures end { result.end ≡ min self.end other.end }
+    {
+        Span {
+            from: self.from.max(other.from),
+            end: self.end.min(other.end),
+        }
+    }
+}
+
+// The span of node k: the ranks of the holes under it.
+fn span_of(work: &[u8], k: usize) -> Span
     requires { SpanOn work.now k }
-    ensures { result ≡ spans work.now k r }
+    ensures { SpanOf work.now k result.from result.end }
 {
     let from = slate::cell(work, slate::FROM, k);
-    if r < from {
-        return false;
+    Span {
+        from,
+        end: from + slate::cell(work, slate::HOLES, k),
     }
-    r < from + slate::cell(work, slate::HOLES, k)
+}
+
+// The spans of the two nodes of pair k.
+fn spans_of(work: &[u8], pairs: &[u8], k: usize) -> (Span, Span)
+    requires { PairSpans work.now pairs.now k }
+    ensures { SpansOf work.now pairs.now k result.0.from result.0.end result.1.from result.1.end }
+{
+    let (p, q) = paper::two_numbers_at(pairs, 4 * k);
+    (span_of(work, p), span_of(work, q))
 }
 
 // Sets the counts of all n ranks to 0.
@@ -44,23 +73,20 @@ fn count_one(work: &mut [u8], c: usize, n: usize, k: usize)
     requires { Counting work.old c n }
     ensures { OneMore c n k work.old work.new }
 {
-    if n <= k {
-        return;
+    if k < n {
+        let v = slate::cells::<2>(work, c, k);
+        slate::set_cells::<2>(work, c, k, v + 1);
     }
-    let v = slate::wide_cell(work, c, k);
-    slate::set_wide_cell(work, c, k, v + 1);
 }
 
-// Counts the span of node k once more: in MARKS where it starts, and in TALLY where it ends.
-fn tally_span(work: &mut [u8], n: usize, k: usize)
+// Counts a span once more: in MARKS where it starts, and in TALLY where it ends.
+fn tally_span(work: &mut [u8], n: usize, span: Span)
     requires tallying { Tallying work.old n }
-    requires span_on { SpanOn work.old k }
-    ensures { Tallied n 1 (spanning work.old k) work.old work.new }
+    requires order { span.from ≤ span.end }
+    ensures { Tallied n 1 (between span.from span.end) work.old work.new }
 {
-    let from = slate::cell(work, slate::FROM, k);
-    let end = from + slate::cell(work, slate::HOLES, k);
-    count_one(work, slate::MARKS, n, from);
-    count_one(work, slate::TALLY, n, end);
+    count_one(work, slate::MARKS, n, span.from);
+    count_one(work, slate::TALLY, n, span.end);
 }
 
 // Counts what pair k covers with rank x: where x is in one node's span, the span of the other node.
@@ -69,14 +95,11 @@ fn tally_pair(work: &mut [u8], pairs: &[u8], n: usize, k: usize, x: usize)
     requires tallying { Tallying work.old n }
     ensures { Tallied n 1 (meeting work.old x (pair_at pairs.now k)) work.old work.new }
 {
-    let p = words::get16(pairs, 4 * k);
-    let q = words::get16(pairs, 4 * k + 2);
-    if in_span(work, p, x) {
-        tally_span(work, n, q);
-        return;
-    }
-    if in_span(work, q, x) {
-        tally_span(work, n, p);
+    let (first, second) = spans_of(work, pairs, k);
+    if first.contains(x) {
+        tally_span(work, n, second);
+    } else if second.contains(x) {
+        tally_span(work, n, first);
     }
 }
 
@@ -92,18 +115,12 @@ fn tally_pairs(work: &mut [u8], pairs: &[u8], n: usize, m: usize, x: usize)
 }
 
 // How many spans are open at rank r, where `running` are at the rank before it.
+#[tactic(auto, using(crate::proofs::RowLaws::upto_more))]
 fn open_at(work: &[u8], r: usize, running: usize) -> usize
     requires { Opening work.now r running }
     ensures { Open work.now (r + 1) result }
 {
-    running + slate::wide_cell(work, slate::MARKS, r) - slate::wide_cell(work, slate::TALLY, r)
-}
-
-// A count, two standing for more.
-fn capped(x: usize) -> usize
-    ensures { result ≡ min 2 x }
-{
-    if x < 2 { x } else { 2 }
+    running + slate::cells::<2>(work, slate::MARKS, r) - slate::cells::<2>(work, slate::TALLY, r)
 }
 
 // Sets SCRATCH at each rank to the number of spans that are open there, two standing for more.
@@ -114,7 +131,7 @@ fn spread(work: &mut [u8], n: usize)
     let mut running = 0;
     for r in 0..n {
         running = open_at(work, r, running);
-        slate::set_cell(work, slate::SCRATCH, r, capped(running));
+        slate::set_cell(work, slate::SCRATCH, r, running.min(2));
     }
 }
 
@@ -130,178 +147,159 @@ fn row(work: &mut [u8], pairs: &[u8], n: usize, m: usize, i: usize)
     spread(work, n);
 }
 
-// The number whose bits are those from lo up to hi.
-fn mask(lo: usize, hi: usize) -> usize
-    requires { (lo ≤ hi) × (hi ≤ 16) }
-    ensures { result ≡ 2 ^ hi - 2 ^ lo }
+// The number whose bits are those of a stretch.
+fn mask(bits: Span) -> usize
+    requires { (bits.from ≤ bits.end) × (bits.end ≤ 16) }
+    ensures { result ≡ 2 ^ bits.end - 2 ^ bits.from }
 {
-    (1 << hi) - (1 << lo)
+    (1 << bits.end) - (1 << bits.from)
 }
 
-// Sets the bits of word i from lo up to hi; false, and sets none, where one is set already.
-fn set_bits(work: &mut [u8], i: usize, lo: usize, hi: usize) -> bool
-    requires { BitsIn work.old i lo hi }
-    ensures { BitsSet i lo hi work.old work.new result }
+// Sets a stretch of the bits of word i; false, and sets none, where one is set already.
+#[tactic(auto, using(crate::proofs::BitLaws::set_bits, crate::proofs::BitLaws::set_small))]
+fn set_bits(work: &mut [u8], i: usize, bits: Span) -> bool
+    requires { BitsIn work.old i bits.from bits.end }
+    ensures { BitsSet i bits.from bits.end work.old work.new result }
 {
-    let bits = mask(lo, hi);
+    let ones = mask(bits);
     let v = words::load(work, i);
-    if v & bits != 0 {
+    if v & ones != 0 {
         return false;
     }
-    words::save(work, i, v + bits);
+    words::save(work, i, v + ones);
     true
 }
 
-// Whether the bits of word i from lo up to hi are all set.
-fn has_bits(work: &[u8], i: usize, lo: usize, hi: usize) -> bool
-    requires { BitsIn work.now i lo hi }
-    ensures { BitsFull work.now i lo hi result }
+// Whether a stretch of the bits of word i are all set.
+#[tactic(auto, using(crate::proofs::BitLaws::full_bits))]
+fn has_bits(work: &[u8], i: usize, bits: Span) -> bool
+    requires { BitsIn work.now i bits.from bits.end }
+    ensures { BitsFull work.now i bits.from bits.end result }
 {
-    let bits = mask(lo, hi);
-    words::load(work, i) & bits == bits
+    let ones = mask(bits);
+    words::load(work, i) & ones == ones
 }
 
-// The end of the word that bit c of a row is in, or hi where that comes before.
-fn word_end(c: usize, hi: usize) -> usize
-    requires { (c < hi) × (hi ≤ 1024) }
-    ensures { StopsAt c hi result }
+// The part of a run of bits of a row that is in the row's word i, as bits of that word.
+fn bits_in(run: Span, i: usize) -> Span
+    requires { 16 * i ≤ run.end }
+    ensures from { result.from ≡ run.from - 16 * i }
+    ensures end { result.end ≡ min (run.end - 16 * i) 16 }
 {
-    let end = 16 * (c / 16) + 16;
-    if end < hi { end } else { hi }
+    let from = run.from.saturating_sub(16 * i);
+    let end = (run.end - 16 * i).min(16);
+    Span { from, end }
 }
 
-// Sets the bits of the row at `at` from lo up to hi, word by word; false where one is set already.
-fn set_run(work: &mut [u8], at: usize, lo: usize, hi: usize) -> bool
-    requires { RunIn work.old at lo hi }
-    ensures { RunSet at lo hi work.old work.new result }
+// Sets a run of the bits of the row at `at`, word by word; false where one is set already.
+fn set_run(work: &mut [u8], at: usize, run: Span) -> bool
+    requires { RunIn work.old at run.from run.end }
+    ensures { RunSet at run.from run.end work.old work.new result }
 {
-    let mut c = lo;
-    while c < hi {
-        let end = word_end(c, hi);
-        if !set_bits(work, at + c / 16, c % 16, end - 16 * (c / 16)) {
+    for i in run.from / 16..run.end.div_ceil(16) {
+        if !set_bits(work, at + i, bits_in(run, i)) {
             return false;
         }
-        c = end;
     }
     true
 }
 
-// Whether the bits of the row at `at` from lo up to hi are all set.
-fn has_run(work: &[u8], at: usize, lo: usize, hi: usize) -> bool
-    requires { RunIn work.now at lo hi }
-    ensures { RunFull work.now at lo hi result }
+// Whether a run of the bits of the row at `at` are all set.
+fn has_run(work: &[u8], at: usize, run: Span) -> bool
+    requires { RunIn work.now at run.from run.end }
+    ensures { RunFull work.now at run.from run.end result }
 {
-    let mut c = lo;
-    while c < hi {
-        let end = word_end(c, hi);
-        if !has_bits(work, at + c / 16, c % 16, end - 16 * (c / 16)) {
-            return false;
-        }
-        c = end;
-    }
-    true
+    (run.from / 16..run.end.div_ceil(16)).all(|i| has_bits(work, at + i, bits_in(run, i)))
 }
 
-// Marks columns c up to d in the row of rank x, and gives the row up where one is marked already.
-fn mark_row(work: &mut [u8], start: usize, x: usize, c: usize, d: usize)
-    requires { RowIn work.old start x c d }
-    ensures { RowsMarked start x (x + 1) (between c d) work.old work.new }
+// The first word of the row of rank x, in the block whose first rank is start.
+fn row_at(start: usize, x: usize) -> usize
+    requires { (start ≤ x) × (x < start + 256) }
+    ensures { result ≡ row_at start x }
 {
-    if set_run(work, 2048 * slate::MARKS + 64 * (x - start), c, d) {
-        return;
-    }
-    slate::set_cell(work, slate::SKIP, x, 1);
+    2048 * slate::MARKS + 64 * (x - start)
 }
 
-// The first rank from lo up to hi whose row is kept, else hi.
-fn next_kept(work: &[u8], lo: usize, hi: usize) -> usize
-    requires { RanksIn work.now lo hi }
-    ensures { Gone work.now lo hi result }
+// Marks columns in the row of rank x, and gives the row up where one is marked already.
+fn mark_row(work: &mut [u8], start: usize, x: usize, columns: Span)
+    requires { RowIn work.old start x columns.from columns.end }
+    ensures { RowsMarked start x (x + 1) (between columns.from columns.end) work.old work.new }
 {
-    let mut x = lo;
-    while x < hi {
+    if !set_run(work, row_at(start, x), columns) {
+        slate::set_cell(work, slate::SKIP, x, 1);
+    }
+}
+
+// The first of a stretch of ranks whose row is kept, else its end.
+fn next_kept(work: &[u8], ranks: Span) -> usize
+    requires { RanksIn work.now ranks.from ranks.end }
+    ensures { Gone work.now ranks.from ranks.end result }
+{
+    let mut x = ranks.from;
+    while x < ranks.end {
         let s = slate::cell(work, slate::SKIP, x);
         if s == 0 {
             return x;
         }
         x += s;
     }
-    hi
+    ranks.end
 }
 
-// The same, and notes at lo how many rows are passed over, so that the next time it takes one step.
-fn pass(work: &mut [u8], lo: usize, hi: usize) -> usize
-    requires { RanksIn work.old lo hi }
-    ensures { Passed lo hi work.old work.new result }
+// The same, and notes at the first how many rows are passed over, so that the next time it takes one step.
+fn pass(work: &mut [u8], ranks: Span) -> usize
+    requires { RanksIn work.old ranks.from ranks.end }
+    ensures { Passed ranks.from ranks.end work.old work.new result }
 {
-    let x = next_kept(work, lo, hi);
-    let s = slate::cell(work, slate::SKIP, lo);
-    if x - lo <= s {
-        return x;
+    let x = next_kept(work, ranks);
+    let passed = x - ranks.from;
+    if slate::cell(work, slate::SKIP, ranks.from) < passed {
+        slate::set_cell(work, slate::SKIP, ranks.from, passed);
     }
-    slate::set_cell(work, slate::SKIP, lo, x - lo);
     x
 }
 
-// Marks columns c up to d in the next row that is kept of the ranks lo up to hi, and gives the rank after it.
-fn mark_next(work: &mut [u8], start: usize, lo: usize, hi: usize, c: usize, d: usize) -> usize
-    requires { RowsIn work.old start lo hi c d }
-    ensures { Advanced start lo hi c d work.old work.new result }
+// Marks columns in the next row that is kept of a stretch of ranks, and gives the rank after it.
+fn mark_next(work: &mut [u8], start: usize, ranks: Span, columns: Span) -> usize
+    requires { RowsIn work.old start ranks.from ranks.end columns.from columns.end }
+    ensures { Advanced start ranks.from ranks.end columns.from columns.end work.old work.new result }
 {
-    let x = pass(work, lo, hi);
-    if hi <= x {
+    let x = pass(work, ranks);
+    if ranks.end <= x {
         return x;
     }
-    mark_row(work, start, x, c, d);
+    mark_row(work, start, x, columns);
     x + 1
 }
 
-// Marks columns c up to d in the rows of the ranks from x up to y that the block has.
-fn mark_rows(work: &mut [u8], start: usize, end: usize, x: usize, y: usize, c: usize, d: usize)
-    requires { BlockIn work.old start end c d }
-    ensures { Marked start end (crossing x y c d) work.old work.new }
+// Marks columns in those rows of a stretch of ranks that the block has.
+fn mark_rows(work: &mut [u8], block: Span, ranks: Span, columns: Span)
+    requires { BlockIn work.old block.from block.end columns.from columns.end }
+    ensures { Marked block.from block.end (crossing ranks.from ranks.end columns.from columns.end) work.old work.new }
 {
-    let lo = field::greater(x, start);
-    let hi = field::lesser(y, end);
-    if hi <= lo {
-        return;
+    let mut left = ranks.meet(block);
+    while left.from < left.end {
+        left.from = mark_next(work, block.from, left, columns);
     }
-    let mut at = lo;
-    while at < hi {
-        at = mark_next(work, start, at, hi, c, d);
-    }
-}
-
-// Marks the span of node q in the rows of the span of node p.
-fn mark_spans(work: &mut [u8], start: usize, end: usize, p: usize, q: usize)
-    requires { SpansIn work.old start end p q }
-    ensures { Marked start end (spanned work.old p q) work.old work.new }
-{
-    let x = slate::cell(work, slate::FROM, p);
-    let y = x + slate::cell(work, slate::HOLES, p);
-    let c = slate::cell(work, slate::FROM, q);
-    let d = c + slate::cell(work, slate::HOLES, q);
-    mark_rows(work, start, end, x, y, c, d);
 }
 
 // Marks what pair k covers: in the rows of each node's span the span of the other.
-fn mark_pair(work: &mut [u8], pairs: &[u8], start: usize, end: usize, k: usize)
-    requires { PairMarking work.old pairs.now start end k }
-    ensures { Marked start end (by_pair work.old pairs.now k) work.old work.new }
+fn mark_pair(work: &mut [u8], pairs: &[u8], block: Span, k: usize)
+    requires { PairMarking work.old pairs.now block.from block.end k }
+    ensures { Marked block.from block.end (by_pair work.old pairs.now k) work.old work.new }
 {
-    let p = words::get16(pairs, 4 * k);
-    let q = words::get16(pairs, 4 * k + 2);
-    mark_spans(work, start, end, p, q);
-    mark_spans(work, start, end, q, p);
+    let (first, second) = spans_of(work, pairs, k);
+    mark_rows(work, block, first, second);
+    mark_rows(work, block, second, first);
 }
 
 // Marks what every pair covers.
-fn mark_pairs(work: &mut [u8], pairs: &[u8], m: usize, start: usize, end: usize)
-    requires { PairsMarking work.old pairs.now m start end }
-    ensures { Marked start end (by_pairs work.old pairs.now m) work.old work.new }
+fn mark_pairs(work: &mut [u8], pairs: &[u8], m: usize, block: Span)
+    requires { PairsMarking work.old pairs.now m block.from block.end }
+    ensures { Marked block.from block.end (by_pairs work.old pairs.now m) work.old work.new }
 {
     for k in 0..m {
-        mark_pair(work, pairs, start, end, k);
+        mark_pair(work, pairs, block, k);
     }
 }
 
@@ -310,43 +308,46 @@ fn judge_row(work: &mut [u8], n: usize, start: usize, x: usize)
     requires { Judging work.old n start x }
     ensures { Judged n start x (x + 1) work.old work.new }
 {
-    let at = 2048 * slate::MARKS + 64 * (x - start);
-    if has_run(work, at, 0, x) {
-        if has_run(work, at, x + 1, n) {
-            return;
-        }
+    let at = row_at(start, x);
+    let below = Span { from: 0, end: x };
+    let above = Span {
+        from: x + 1,
+        end: n,
+    };
+    if !(has_run(work, at, below) && has_run(work, at, above)) {
+        slate::set_cell(work, slate::SKIP, x, 1);
     }
-    slate::set_cell(work, slate::SKIP, x, 1);
 }
 
 // The same for each rank of a block.
-fn judge_rows(work: &mut [u8], n: usize, start: usize, end: usize)
-    requires { JudgingAll work.old n start end }
-    ensures { Judged n start start end work.old work.new }
+fn judge_rows(work: &mut [u8], n: usize, block: Span)
+    requires { JudgingAll work.old n block.from block.end }
+    ensures { Judged n block.from block.from block.end work.old work.new }
 {
-    for x in start..end {
-        judge_row(work, n, start, x);
+    for x in block.from..block.end {
+        judge_row(work, n, block.from, x);
     }
 }
 
 // Every row of a block is kept, and nothing is marked in it.
-fn empty_rows(work: &mut [u8], start: usize, end: usize)
-    requires { Block work.old start end }
-    ensures { Blank start end work.old work.new }
+fn empty_rows(work: &mut [u8], block: Span)
+    requires { Block work.old block.from block.end }
+    ensures { Blank block.from block.end work.old work.new }
 {
-    slate::clear_words(work, 2048 * slate::MARKS, 64 * (end - start));
-    slate::clear_words(work, 2048 * slate::SKIP + start, end - start);
+    let rows = block.end - block.from;
+    slate::clear_words(work, 2048 * slate::MARKS, 64 * rows);
+    slate::clear_words(work, 2048 * slate::SKIP + block.from, rows);
 }
 
 // Keeps of a block only ranks whose hole is covered exactly once with every other hole.
-fn sift_block(work: &mut [u8], pairs: &[u8], n: usize, m: usize, start: usize, end: usize)
+fn sift_block(work: &mut [u8], pairs: &[u8], n: usize, m: usize, block: Span)
     requires ready { Ready work.old pairs.now n m }
-    requires judging_all { JudgingAll work.old n start end }
-    ensures { Sifted pairs.now n m start end work.old work.new }
+    requires judging_all { JudgingAll work.old n block.from block.end }
+    ensures { Sifted pairs.now n m block.from block.end work.old work.new }
 {
-    empty_rows(work, start, end);
-    mark_pairs(work, pairs, m, start, end);
-    judge_rows(work, n, start, end);
+    empty_rows(work, block);
+    mark_pairs(work, pairs, m, block);
+    judge_rows(work, n, block);
 }
 
 // The same for all n ranks, the last block first.
@@ -356,38 +357,42 @@ fn sift(work: &mut [u8], pairs: &[u8], n: usize, m: usize)
 {
     let mut end = n;
     while 0 < end {
-        let start = field::greater(end, 256) - 256;
-        sift_block(work, pairs, n, m, start, end);
-        end = start;
+        let from = end.saturating_sub(256);
+        sift_block(work, pairs, n, m, Span { from, end });
+        end = from;
     }
 }
 
+// The least hole after hole i that is not covered exactly once with it, where SCRATCH says for the rank of each how often it is.
+fn partner(work: &[u8], n: usize, i: usize) -> Option<usize>
+    requires ranked { Ranked work.now n }
+    requires i_lt_n { i < n }
+    ensures { Partner work.now n i result }
+{
+    (i + 1..n).find(|&j| slate::cell(work, slate::SCRATCH, slate::cell(work, slate::RANK, j)) != 1)
+}
+
 // The least two of n holes, by the first and then by the second, that are not covered exactly once. A hole whose rank is kept is passed over.
-fn least_two(work: &mut [u8], pairs: &[u8], n: usize, m: usize) -> Two
+fn least_two(work: &mut [u8], pairs: &[u8], n: usize, m: usize) -> Option<(usize, usize)>
     requires ready { Ready work.old pairs.now n m }
     requires goods { Goods work.old pairs.now n m }
     ensures { Covering pairs.now n m work.old work.new result }
 {
-    let mut found = Two::Neither;
-    'search: for i in 0..n {
+    for i in 0..n {
         let x = slate::cell(work, slate::RANK, i);
         if slate::cell(work, slate::SKIP, x) == 0 {
             continue;
         }
         row(work, pairs, n, m, i);
-        for j in i + 1..n {
-            let r = slate::cell(work, slate::RANK, j);
-            if slate::cell(work, slate::SCRATCH, r) != 1 {
-                found = Two::Both(i, j);
-                break 'search;
-            }
+        if let Some(j) = partner(work, n, i) {
+            return Some((i, j));
         }
     }
-    found
+    None
 }
 
 // The least two of n holes that are not covered exactly once.
-pub fn uncovered(work: &mut [u8], pairs: &[u8], n: usize, m: usize) -> Two
+pub fn uncovered(work: &mut [u8], pairs: &[u8], n: usize, m: usize) -> Option<(usize, usize)>
     requires { Ready work.old pairs.now n m }
     ensures { Covering pairs.now n m work.old work.new result }
 {

@@ -1,9 +1,5 @@
 -- Cells that are 0 add up to 0, and the second column cleared is not the first. Assumes nothing.
-use mathlib.Core.Path.{◌∙◌}
-use mathlib.Core.List.{List}
-use Prim.Native.Nat.{ℕ, ◌*◌}
-use native.Mathlib.Omega.{arith}
-use borrow.Author.Rules.{rules}
+use Rattle.std.proofs.Common.{◌∙◌, List, ℕ, ◌*◌, arith, rules}
 use Rattle.slate.specs.Columns.{MARKS, TALLY}
 use Rattle.slate.specs.Slate.{Cleared}
 use Rattle.slate.proofs.Frames.{kept_more}
@@ -21,13 +17,5 @@ both {b} {d} {n} p q g =
       };
     }
 
-ruleset all = (both, rules)
-
-pub clear-requires : goal.clear-requires
-clear-requires c = search all
-
-pub clear-requires-2 : goal.clear-requires-2
-clear-requires-2 c = search all
-
 pub returns : goal.returns
-returns c = search all
+returns c = search (both, rules)

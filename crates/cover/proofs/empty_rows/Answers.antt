@@ -1,21 +1,14 @@
 -- Words that are 0 have no bit, and a SKIP that is 0 passes over nothing. Assumes nothing.
-use mathlib.Core.Path.{◌≡◌, ◌∙◌}
-use mathlib.Core.List.{List}
-use Prim.Native.Nat.{ℕ, ◌<◌, ◌≤◌, ◌+◌, ◌-◌, ◌*◌, ◌/◌, ◌%◌}
-use native.Mathlib.Omega.{arith}
-use borrow.Author.Rules.{rules}
+use Rattle.std.proofs.Common.{◌≡◌, ◌∙◌, List, ℕ, ◌<◌, ◌≤◌, ◌+◌, ◌-◌, ◌*◌, ◌/◌, ◌%◌, arith, rules}
 use Rattle.words.specs.Area.{word}
 use Rattle.slate.specs.Columns.{MARKS, SKIP}
-use Rattle.slate.specs.Slate.{cell, WordsIn, WordsCleared}
+use Rattle.slate.specs.Slate.{cell, WordsCleared}
 use Rattle.slate.proofs.Frames.{kept_more}
 use Rattle.cover.specs.Marks.{marked, row_at, Block, Blank}
 use Rattle.cover.proofs.BitLaws.{no_bit}
 use Rattle.cover.proofs.empty_rows.Goals as goal
 
 module _ {a b : List ℕ} {start end : ℕ} (g : Block a start end) (p : WordsCleared a b (2_048 * MARKS) (64 * (end - start))) where
-  next : WordsIn b (2_048 * SKIP + start) (end - start)
-  next = record { grid = omega arith; there = omega arith }
-
   module _ {d : List ℕ} (q : WordsCleared b d (2_048 * SKIP + start) (end - start)) where
     skip : (x : ℕ) → start ≤ x → x < end → cell d SKIP x ≡ 0
     skip x l h =
@@ -36,13 +29,5 @@ module _ {a b : List ℕ} {start end : ℕ} (g : Block a start end) (p : WordsCl
           rows = λ x l h. record { is = λ z r m. rw (blank-word x r l h m) (no_bit (r % 16)) };
         }
 
-ruleset all = (next, blank, rules)
-
-pub clear_words-requires : goal.clear_words-requires
-clear_words-requires c = search all
-
-pub clear_words-requires-2 : goal.clear_words-requires-2
-clear_words-requires-2 c = search all
-
 pub returns : goal.returns
-returns c = search all
+returns c = search (blank, rules)

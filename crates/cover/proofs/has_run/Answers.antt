@@ -1,57 +1,41 @@
-use mathlib.Core.Path.{◌≡◌}
-use mathlib.Core.Bool.{Bool, true, false, not}
-use mathlib.Core.List.{List}
-use Prim.Native.Nat.{ℕ, ◌≤◌, ◌+◌, ◌-◌, ◌*◌, ◌/◌, ◌%◌}
-use native.Mathlib.Omega.{arith}
-use lib.Dec.{ltb}
-use borrow.Author.Tests.{ltb-true, ltb-false, not-false}
-use borrow.Author.Rules.{rules}
-use Rattle.paper.proofs.ListLaws.{cases}
-use Rattle.cover.specs.Marks.{marked, BitsIn, BitsFull, RunIn, StopsAt, RunFull}
+-- Bit j of a row is bit j % 16 of its word j / 16, which is one of the words asked. Assumes nothing.
+use Rattle.std.proofs.Common.{◌≡◌, Bool, true, false, List, ℕ, ◌+◌, ◌-◌, ◌*◌, ◌/◌, ◌%◌, ◌<◌, ◌≤◌, min, length, refl, arith, rules, MatchBool}
+use Rattle.std.specs.Bool.{⊤}
+use Rattle.std.specs.Int.{div_ceil}
+use Rattle.std.specs.List.{AllWithin, range_with_len}
+use Rattle.std.proofs.lemmas.Iterator.{cases_from_all, YieldsList-from_range}
+use Rattle.std.proofs.lemmas.List.FromFn.{length-range_with_len, get_or-range_with_len}
+use Rattle.cover.specs.Marks.{marked, BitsFull, RunIn, RunFull}
 use Rattle.cover.proofs.has_run.Goals as goal
 
-start : {w : List ℕ} {at lo : ℕ} → RunFull w at lo lo true
-start = record { bits = λ t j a b. absurd (omega arith) }
+-- the bits from lo up to hi that are in word i are set
+record Full (w : List ℕ) (at lo hi i : ℕ) : Type 0 where
+  bits : (j : ℕ) → lo ≤ j → j < hi → j / 16 ≡ i → marked w at j ≡ 1
 
-not_full : {w : List ℕ} {at lo hi : ℕ} → RunFull w at lo hi false
-not_full = record { bits = λ t. let z : ◌≡◌ {A = ℕ} 0 1 = cc in absurd (omega arith) }
+full_word : {w : List ℕ} {at lo hi i a e : ℕ} {t : Bool} → BitsFull w (at + i) a e t → a ≡ lo - 16 * i → e ≡ min (hi - 16 * i) 16
+    → t ≡ true → Full w at lo hi i
+unfolding marked
+full_word f p q e = record { bits = λ j a b c. rw c (f.bits e (j % 16) (omega arith) (omega arith)) }
 
-module _ {w : List ℕ} {at lo hi c e : ℕ} (g : RunIn w at lo hi) (s : StopsAt c hi e) where
-  next : BitsIn w (at + c / 16) (c % 16) (e - 16 * (c / 16))
-  next = record { grid = g.grid; there = omega arith; order = omega arith; few = omega arith }
-
-  turn : {r : Bool} → RunFull w at lo c true → BitsFull w (at + c / 16) (c % 16) (e - 16 * (c / 16)) r → not r ≡ false → RunFull w at lo e true
-  unfolding marked
-  turn d f t =
-      record {
-        bits = λ y j a b.
-            cases (ltb j c)
-            (λ h. d.bits y j a (ltb-true j c h))
-            (λ h.
-            let x = ltb-false j c h in
-            let q : j / 16 ≡ c / 16 = omega arith in
-            rw q (f.bits (not-false _ t) (j % 16) (omega arith) (omega arith)));
-      }
-
-done : {w : List ℕ} {at lo hi c : ℕ} → RunFull w at lo c true → c ≤ hi → hi ≤ c → RunFull w at lo hi true
-done {hi} {c} d l m = let e : c ≡ hi = omega arith in rw (← e) d
-
-ruleset all = (start, not_full, next, turn, done, rules)
-
-pub loop-c-init : goal.loop-c-init
-loop-c-init c = search all
-
-pub word_end-end-requires : goal.word_end-end-requires
-word_end-end-requires c = search all
-
-pub has_bits-requires : goal.has_bits-requires
-has_bits-requires c = search all
-
-pub returns-then-not-has_bits : goal.returns-then-not-has_bits
-returns-then-not-has_bits c = search all
-
-pub loop-c-preserved : goal.loop-c-preserved
-loop-c-preserved c = search all
+full : {w : List ℕ} {at lo hi : ℕ} (X : Type 0) (t : Bool) → RunIn w at lo hi
+    → MatchBool t (AllWithin (Full w at lo hi) (range_with_len (lo / 16) (div_ceil hi 16 - lo / 16)) 0 (length (range_with_len (lo / 16) (div_ceil hi 16 - lo / 16)))) X
+    → RunFull w at lo hi t
+full {lo} {hi} X true g h =
+    record {
+      bits = λ y j a b.
+          let n : ℕ = div_ceil hi 16 - lo / 16 in
+          let l : j / 16 - lo / 16 < n = omega arith in
+          let e : lo / 16 + (j / 16 - lo / 16) ≡ j / 16 = omega arith in
+          let f = h (j / 16 - lo / 16) 0 (omega arith) (omega (arith, length-range_with_len (lo / 16) n)) in
+          (rw (get_or-range_with_len (lo / 16) n (j / 16 - lo / 16) 0 l, e) at f).bits j a b refl;
+    }
+full X false g h = record { bits = λ t. absurd (cc) }
 
 pub returns : goal.returns
-returns c = search all
+returns c =
+    let w = c.args.work.now in
+    let run = c.args.run in
+    let by_call = cases_from_all _ _ _ (Full w c.args.at run.from run.end) (λ i. ⊤) c.all.ensures.ran
+    (YieldsList-from_range (run.from / 16) (div_ceil run.end 16) (div_ceil run.end 16 - run.from / 16) (cc) refl)
+    (λ x q k. search (full_word, rules)) (λ x q k. tt) in
+    full _ _ c.requires by_call

@@ -1,10 +1,7 @@
 -- The rows passed over say whatever is wanted, the next row says the columns more. Assumes nothing.
-use mathlib.Core.List.{List}
-use Prim.Native.Nat.{ℕ, ◌≤◌, ◌<◌, ◌+◌}
-use native.Mathlib.Omega.{arith}
-use borrow.Author.Rules.{rules}
+use Rattle.std.proofs.Common.{List, ℕ, ◌≤◌, ◌<◌, ◌+◌, arith, rules}
 use Rattle.cover.specs.Bits.{between}
-use Rattle.cover.specs.Marks.{RowIn, RowsIn, Passed, RowsMarked, Advanced}
+use Rattle.cover.specs.Marks.{RowsIn, Passed, RowsMarked, Advanced}
 use Rattle.cover.proofs.MarkLaws.{rows_more}
 use Rattle.cover.proofs.mark_next.Goals as goal
 
@@ -12,24 +9,14 @@ module _ {w w' : List ℕ} {start lo hi c d x : ℕ} (g : RowsIn w start lo hi c
   all_passed : hi ≤ x → Advanced start lo hi c d w w' x
   all_passed l = record { after = omega arith; until = p.until; rows = p.rows start (between c d) }
 
-  row_in : x < hi → RowIn w' start x c d
-  row_in l =
-      record { grid = omega arith; low = omega arith; high = omega arith; few = omega arith; order = g.order; columns = g.columns }
-
   one_more : {w'' : List ℕ} → x < hi → RowsMarked start x (x + 1) (between c d) w' w'' → Advanced start lo hi c d w w'' (x + 1)
   one_more l s =
       record { after = omega arith; until = omega arith; rows = rows_more (p.rows start (between c d)) s p.after (omega arith) }
 
-ruleset all = (all_passed, row_in, one_more, rules)
+ruleset all = (all_passed, one_more, rules)
 
-pub pass-x-requires : goal.pass-x-requires
-pass-x-requires c = search all
-
-pub returns-then-hi-x : goal.returns-then-hi-x
-returns-then-hi-x c = search all
-
-pub mark_row-requires : goal.mark_row-requires
-mark_row-requires c = search all
+pub returns-then-ranks-x : goal.returns-then-ranks-x
+returns-then-ranks-x c = search all
 
 pub returns : goal.returns
 returns c = search all

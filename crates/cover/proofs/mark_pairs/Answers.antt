@@ -1,12 +1,7 @@
-use mathlib.Core.Path.{◌≡◌, refl}
-use mathlib.Core.List.{List}
-use Prim.Native.Nat.{ℕ, ◌≤◌, ◌<◌, ◌+◌}
-use native.Mathlib.Numerals.{add-one}
-use native.Mathlib.Omega.{arith}
-use borrow.Author.Rules.{rules}
+use Rattle.std.proofs.Common.{refl, List, ℕ, ◌<◌, ◌+◌, arith, rules}
 use Rattle.cover.specs.Rows.{meetings}
 use Rattle.cover.specs.Marks.{by_pair, by_pairs, PairMarking, PairsMarking, Marked}
-use Rattle.cover.proofs.SpanLaws.{one_pair, ready-kept, meeting-kept}
+use Rattle.cover.proofs.SpanLaws.{one_pair, ready-kept, meetings-more}
 use Rattle.cover.proofs.MarkLaws.{marked-none, marked_as, marked_more, block_kept}
 use Rattle.cover.proofs.mark_pairs.Goals as goal
 
@@ -28,14 +23,10 @@ next {k} d g l =
 
 turn : {w₀ w w' ps : List ℕ} {m start end k : ℕ} → Marked start end (by_pairs w₀ ps k) w₀ w → PairsMarking w₀ ps m start end → k < m
     → Marked start end (by_pair w ps k) w w' → Marked start end (by_pairs w₀ ps (k + 1)) w₀ w'
-unfolding by_pair by_pairs meetings
-turn {k} d g l s = marked_as (λ x r a b. rw (add-one, meeting-kept d.kept g.ready k x r l)) (marked_more d s)
+unfolding by_pair by_pairs
+turn {k} d g l s = marked_as (λ x r a b. meetings-more d.kept g.ready k x r l) (marked_more d s)
 
-done : {old new : List ℕ} {start end : ℕ} (ps : List ℕ) (m k : ℕ) → Marked start end (by_pairs old ps k) old new → k ≤ m → m ≤ k
-    → Marked start end (by_pairs old ps m) old new
-done ps m k d l h = let e : k ≡ m = omega arith in rw (← e) d
-
-ruleset all = (begin, next, turn, done, rules)
+ruleset all = (begin, next, turn, rules)
 
 pub loop-k-init : goal.loop-k-init
 loop-k-init c = search all
@@ -45,6 +36,3 @@ mark_pair-requires c = search all
 
 pub loop-k-preserved : goal.loop-k-preserved
 loop-k-preserved c = search all
-
-pub returns : goal.returns
-returns c = search all

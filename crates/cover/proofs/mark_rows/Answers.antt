@@ -1,65 +1,40 @@
-use mathlib.Core.Path.{◌≡◌}
-use mathlib.Core.List.{List}
-use Prim.Native.Nat.{ℕ, ◌≤◌, ◌<◌, min, max}
-use native.Mathlib.Omega.{arith}
-use borrow.Author.Rules.{rules}
+use Rattle.std.proofs.Common.{◌≡◌, List, ℕ, ◌≤◌, min, max, ◌∙◌, arith, rules}
 use Rattle.cover.specs.Bits.{between}
-use Rattle.cover.specs.Marks.{crossing, RowsIn, BlockIn, Marked, RowsMarked, Advanced}
-use Rattle.cover.proofs.BitLaws.{between_none, between-same}
-use Rattle.cover.proofs.MarkLaws.{marked-none, marked_as, rows_none, rows_more}
+use Rattle.cover.specs.Marks.{crossing, BlockIn, Marked, Advanced}
+use Rattle.cover.proofs.BitLaws.{between_none, between-same, between_more}
+use Rattle.cover.proofs.MarkLaws.{marked-none, marked_as, marked_more, block_kept}
 use Rattle.cover.proofs.mark_rows.Goals as goal
 
-module _ {start end : ℕ} (x y : ℕ) {lo hi : ℕ} (e : lo ≡ max x start) (f : hi ≡ min y end) where
-  none_there : {w : List ℕ} (c d : ℕ) → hi ≤ lo → Marked start end (crossing x y c d) w w
-  unfolding crossing
-  none_there c d l = marked-none (λ i r a b. let z = between_none x y i (omega arith) in rw z (omega arith))
+begin : {w : List ℕ} {start end : ℕ} (lo c d : ℕ) → Marked start end (crossing lo lo c d) w w
+unfolding crossing
+begin lo c d = marked-none (λ i r a b. let z = between_none lo lo i (omega arith) in rw z (omega arith))
 
-  done : {w₀ w : List ℕ} {c d at : ℕ} → BlockIn w₀ start end c d → lo < hi → RowsMarked start lo at (between c d) w₀ w → at ≤ hi → hi ≤ at
-      → Marked start end (crossing x y c d) w₀ w
+module _ {w₀ w : List ℕ} {start end lo c d at : ℕ} (g : BlockIn w₀ start end c d) (l : lo ≤ at)
+    (m : Marked start end (crossing lo at c d) w₀ w) where
+  turn : {w' : List ℕ} {hi next : ℕ} → start ≤ lo → hi ≤ end → Advanced start at hi c d w w' next → Marked start end (crossing lo next c d) w₀ w'
   unfolding crossing
-  done {at} g l m a b =
+  turn {next} e f s =
+      marked_as (λ i r p q. rw (← between_more lo at next i l (omega arith)) (omega arith))
+      (marked_more m (s.rows.block end (block_kept g.block m) (m.skips g.skips) (omega arith) (omega arith)))
+
+  done : {hi : ℕ} (x y : ℕ) → lo ≡ max x start → hi ≡ min y end → at ≤ max lo hi → hi ≤ at → Marked start end (crossing x y c d) w₀ w
+  unfolding crossing
+  done x y e f a b =
       marked_as
       (λ i r p q.
       let same : between lo at i ≡ between x y i = between-same _ _ _ _ _ _ (λ u v. (omega arith, omega arith)) (λ u v. (omega arith, omega arith)) in
       rw same)
-      (m.block end g.block g.skips (omega arith) (omega arith))
+      m
 
-  next : {w₀ w : List ℕ} {c d at : ℕ} → BlockIn w₀ start end c d → RowsMarked start lo at (between c d) w₀ w → lo ≤ at → at < hi
-      → RowsIn w start at hi c d
-  next g m a b =
-      record {
-        grid = omega arith;
-        low = omega arith;
-        some = b;
-        high = omega arith;
-        few = omega arith;
-        order = g.order;
-        columns = g.columns;
-      }
-
-turn : {w₀ w w' : List ℕ} {start lo hi c d at next : ℕ} → RowsMarked start lo at (between c d) w₀ w → lo ≤ at → Advanced start at hi c d w w' next
-    → RowsMarked start lo next (between c d) w₀ w'
-turn m l s = rows_more m s.rows l (omega arith)
-
-ruleset all = (none_there, done, next, rows_none, turn, rules)
-
-pub greater-lo-requires : goal.greater-lo-requires
-greater-lo-requires c = search all
-
-pub lesser-hi-requires : goal.lesser-hi-requires
-lesser-hi-requires c = search all
-
-pub returns-then-hi-lo : goal.returns-then-hi-lo
-returns-then-hi-lo c = search all
-
-pub loop-at-init : goal.loop-at-init
-loop-at-init c = search all
-
-pub mark_next-at-requires : goal.mark_next-at-requires
-mark_next-at-requires c = search all
-
-pub loop-at-preserved : goal.loop-at-preserved
-loop-at-preserved c = search all
+pub loop-left-preserved : goal.loop-left-preserved
+loop-left-preserved c =
+    let i = c.loop-left.invariant in
+    (i.0, omega arith, omega arith, turn c.requires i.1 i.3 (omega arith) (omega arith) c.mark_next.ensures)
 
 pub returns : goal.returns
-returns c = search all
+returns c =
+    let i = c.loop-left.invariant in
+    done c.requires i.1 i.3 _ _ c.meet-left.ensures.from (i.0 ∙ c.meet-left.ensures.end) i.2 c.loop-left-test.false
+
+pub loop-left-init : goal.loop-left-init
+loop-left-init c = search (begin, rules)

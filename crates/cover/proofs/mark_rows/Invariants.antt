@@ -1,11 +1,14 @@
--- In the block the ranks from x up to y are those from lo up to hi; the rows up to `at` are marked. Assumes nothing.
-use Prim.Native.Nat.{◌≤◌, ◌-◌}
-use Rattle.cover.specs.Bits.{between}
-use Rattle.cover.specs.Marks.{RowsMarked}
+-- In the block the ranks asked are those that are left at first; the rows up to those that are left now are marked. Assumes nothing.
+use Rattle.std.proofs.Common.{◌≡◌, ◌≤◌, ◌-◌, max}
+use Rattle.cover.specs.Marks.{crossing, Marked}
 use Rattle.cover.proofs.mark_rows.Given as goal
 
-abbrev pub invariant-loop-at : goal.invariant-loop-at
-invariant-loop-at l = (l.initial.at ≤ l.at) × (l.at ≤ l.hi) × RowsMarked l.start l.initial.at l.at (between l.c l.d) l.initial.work l.work
+abbrev pub invariant-loop-left : goal.invariant-loop-left
+invariant-loop-left l =
+    (l.left.end ≡ l.initial.left.end)
+    × (l.initial.left.from ≤ l.left.from)
+    × (l.left.from ≤ max l.initial.left.from l.left.end)
+    × Marked l.block.from l.block.end (crossing l.initial.left.from l.left.from l.columns.from l.columns.end) l.initial.work l.work
 
-abbrev pub decreases-loop-at : goal.decreases-loop-at
-decreases-loop-at l = l.hi - l.at
+abbrev pub decreases-loop-left : goal.decreases-loop-left
+decreases-loop-left l = l.left.end - l.left.from

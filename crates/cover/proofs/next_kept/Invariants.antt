@@ -1,6 +1,5 @@
 -- From a row that is given up to the end of its run every row is; so up to x every row is. Assumes nothing.
-use mathlib.Core.List.{List}
-use Prim.Native.Nat.{ℕ, ◌≤◌, ◌<◌, ◌-◌}
+use Rattle.std.proofs.Common.{List, ℕ, ◌≤◌, ◌<◌, ◌-◌}
 use Rattle.slate.specs.Columns.{SKIP}
 use Rattle.slate.specs.Slate.{cell}
 use Rattle.cover.specs.Marks.{Skips}
@@ -12,7 +11,7 @@ pub record GoneTo (w : List ℕ) (lo x : ℕ) : Type 0 where
   pub gone : (start end : ℕ) → Skips w start end → start ≤ lo → (i : ℕ) → lo ≤ i → i < x → i < end → 0 < cell w SKIP i
 
 abbrev pub invariant-loop-x : goal.invariant-loop-x
-invariant-loop-x l = GoneTo l.work l.lo l.x
+invariant-loop-x l = GoneTo l.work l.ranks.from l.x
 
 abbrev pub decreases-loop-x : goal.decreases-loop-x
-decreases-loop-x l = l.hi - l.x
+decreases-loop-x l = l.ranks.end - l.x

@@ -1,15 +1,10 @@
 -- The rows passed over are given up, and they stay so when their number is noted at lo. Assumes nothing.
-use mathlib.Core.Path.{refl}
-use mathlib.Core.List.{List}
-use Prim.Native.Nat.{ℕ, ◌<◌, ◌-◌}
-use native.Mathlib.Omega.{arith}
-use borrow.Author.Rules.{rules}
+use Rattle.std.proofs.Common.{refl, List, ℕ, ◌<◌, ◌-◌, arith, rules}
 use Rattle.slate.specs.Columns.{SKIP}
 use Rattle.slate.specs.Slate.{Held, Set}
 use Rattle.slate.proofs.Frames.{set-cell, kept_none, kept_set}
 use Rattle.cover.specs.Marks.{Gone, Passed}
-use Rattle.cover.proofs.BitLaws.{inside}
-use Rattle.cover.proofs.MarkLaws.{says_any, says_kept, still, skips_set}
+use Rattle.cover.proofs.MarkLaws.{says_any, still, skips_set, rows_marked}
 use Rattle.cover.proofs.pass.Goals as goal
 
 module _ {w : List ℕ} {lo hi x : ℕ} (g : Gone w lo hi x) where
@@ -19,16 +14,9 @@ module _ {w : List ℕ} {lo hi x : ℕ} (g : Gone w lo hi x) where
         len = refl;
         after = g.after;
         until = g.until;
-        rows = λ start f. record {
-          len = refl;
-          block = λ end b s l h. record {
-            kept = kept_none;
-            skips = λ s. s;
-            rows = λ i c d e t.
-                inside lo x i (λ p q. says_any (g.gone start end s l i p q d))
-                (λ o z. says_kept refl (λ r k. refl) (λ r. rw z (omega arith)) t);
-          };
-        };
+        rows = λ start f.
+            rows_marked kept_none (λ end l s. s) (λ end i l s p q d f u. says_any (g.gone start end s l i p q d))
+            (λ i o. (refl, λ a b r m. refl));
       }
 
   noted : {w' : List ℕ} {s : ℕ} → Held w SKIP lo s → s < x - lo → Set w w' SKIP lo (x - lo) → Passed lo hi w w' x
@@ -38,31 +26,17 @@ module _ {w : List ℕ} {lo hi x : ℕ} (g : Gone w lo hi x) where
         len = t.len;
         after = g.after;
         until = g.until;
-        rows = λ start f. record {
-          len = t.len;
-          block = λ end b s l h. record {
-            kept = kept_set t (omega arith) (omega arith);
-            skips = skips_set lo t p (λ i c d e. g.gone start end s l i (omega arith) (omega arith) e);
-            rows = λ i c d e u.
-                inside lo x i (λ y z. says_any (still lo t p i (g.gone start end s l i y z d)))
-                (λ o z. says_kept (set-cell t SKIP i (λ y. o (omega arith) (omega arith))) (λ r k. t.rest _ (omega arith)) (λ r. rw z (omega arith)) u);
-          };
-        };
+        rows = λ start f.
+            rows_marked (kept_set t (omega arith) (omega arith))
+            (λ end l s. skips_set lo t p (λ i c d e. g.gone start end s l i (omega arith) (omega arith) e) s)
+            (λ end i l s y z d f u. says_any (still lo t p i (g.gone start end s l i y z d)))
+            (λ i o. (set-cell t SKIP i (λ y. o (omega arith) (omega arith)), λ a b r m. t.rest _ (omega arith)));
       }
 
 ruleset all = (stays, noted, rules)
 
-pub next_kept-x-requires : goal.next_kept-x-requires
-next_kept-x-requires c = search all
+pub returns-then-cell-passed : goal.returns-then-cell-passed
+returns-then-cell-passed c = search all
 
-pub cell-s-requires : goal.cell-s-requires
-cell-s-requires c = search all
-
-pub returns-then-x-lo : goal.returns-then-x-lo
-returns-then-x-lo c = search all
-
-pub set_cell-requires : goal.set_cell-requires
-set_cell-requires c = search all
-
-pub returns : goal.returns
-returns c = search all
+pub returns-else-cell-passed : goal.returns-else-cell-passed
+returns-else-cell-passed c = search all

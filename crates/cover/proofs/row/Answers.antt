@@ -1,8 +1,5 @@
 -- With nothing counted before, as many spans are open at a rank as pairs cover its hole and hole i. Assumes nothing.
-use mathlib.Core.List.{List}
-use Prim.Native.Nat.{ℕ, ◌<◌}
-use native.Mathlib.Omega.{arith}
-use borrow.Author.Rules.{rules}
+use Rattle.std.proofs.Common.{List, ℕ, ◌<◌, arith, rules}
 use Rattle.slate.specs.Columns.{RANK}
 use Rattle.slate.specs.Slate.{cell, Held}
 use Rattle.slate.proofs.Frames.{kept_wider, kept_both, kept_cell}
@@ -29,17 +26,8 @@ done {b} {i} g p o t s l =
 
 ruleset all = (ready-kept, done, rules)
 
-pub empty_counts-requires : goal.empty_counts-requires
-empty_counts-requires c = search all
-
-pub cell-x-requires : goal.cell-x-requires
-cell-x-requires c = search all
-
 pub tally_pairs-requires : goal.tally_pairs-requires
 tally_pairs-requires c = search all
-
-pub spread-requires : goal.spread-requires
-spread-requires c = search all
 
 pub returns : goal.returns
 returns c = search all

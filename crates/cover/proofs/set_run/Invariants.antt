@@ -1,11 +1,7 @@
--- Word by word: the bits up to c are set, and a turn takes c to the end of its word. No other word has a bit between. Assumes nothing.
-use mathlib.Core.Bool.{true}
-use Prim.Native.Nat.{◌≤◌, ◌-◌}
+-- Word by word: the bits up to word i are set. No other word has a bit between. Assumes nothing.
+use Rattle.std.proofs.Common.{true, ◌*◌, min, max}
 use Rattle.cover.specs.Marks.{RunSet}
 use Rattle.cover.proofs.set_run.Given as goal
 
-abbrev pub invariant-loop-c : goal.invariant-loop-c
-invariant-loop-c l = (l.lo ≤ l.c) × (l.c ≤ l.hi) × RunSet l.at l.lo l.c l.initial.work l.work true
-
-abbrev pub decreases-loop-c : goal.decreases-loop-c
-decreases-loop-c l = l.hi - l.c
+abbrev pub invariant-loop-i : goal.invariant-loop-i
+invariant-loop-i l = RunSet l.at l.run.from (max l.run.from (min l.run.end (16 * l.i))) l.initial.work l.work true

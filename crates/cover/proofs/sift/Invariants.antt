@@ -1,5 +1,5 @@
 -- The ranks from `end` on are sifted, and a turn sifts a block below them; it leaves their SKIP. Assumes nothing.
-use Prim.Native.Nat.{◌≤◌}
+use Rattle.std.proofs.Common.{◌≤◌}
 use Rattle.cover.specs.Marks.{Sifted}
 use Rattle.cover.proofs.sift.Given as goal
 

@@ -1,8 +1,5 @@
 -- Nothing is marked, then what the pairs cover is, so that a row that is full but for its own rank is good. Assumes nothing.
-use mathlib.Core.List.{List}
-use Prim.Native.Nat.{ℕ}
-use native.Mathlib.Omega.{arith}
-use borrow.Author.Rules.{rules}
+use Rattle.std.proofs.Common.{List, ℕ, arith, rules}
 use Rattle.slate.proofs.Frames.{kept_wider, kept_both}
 use Rattle.cover.specs.Spans.{Ready}
 use Rattle.cover.specs.Marks.{by_pairs, PairsMarking, Marked, Blank, JudgingAll, Judged, Sifted}
@@ -36,14 +33,8 @@ module _ {a b ps : List ℕ} {n m start end : ℕ} (g : Ready a ps n m) (j : Jud
 
 ruleset all = (marking, sifted, rules)
 
-pub empty_rows-requires : goal.empty_rows-requires
-empty_rows-requires c = search all
-
 pub mark_pairs-requires : goal.mark_pairs-requires
 mark_pairs-requires c = search all
-
-pub judge_rows-requires : goal.judge_rows-requires
-judge_rows-requires c = search all
 
 pub returns : goal.returns
 returns c = search all

@@ -1,25 +1,14 @@
-use mathlib.Core.Path.{◌≡◌, refl, ap, ◌∙◌}
-use mathlib.Core.List.{List}
-use Prim.Native.Nat.{ℕ, ◌≤◌, ◌<◌, ◌+◌, min}
-use native.Mathlib.Omega.{arith}
-use borrow.Author.Rules.{rules}
-use borrow.Author.Count.{below_more}
+use Rattle.std.proofs.Common.{◌≡◌, refl, ◌∙◌, List, ℕ, ◌≤◌, ◌<◌, ◌+◌, min, arith, rules, below_more}
 use Rattle.slate.specs.Columns.{MARKS, SCRATCH, TALLY}
 use Rattle.slate.specs.Slate.{cell, Set}
-use Rattle.slate.proofs.Frames.{set-cell, kept_none, kept_set, kept_both}
+use Rattle.slate.proofs.Frames.{set-cell, kept_set, kept_both}
 use Rattle.cover.specs.Rows.{upto, Open, Spreading, Opening, Spread}
 use Rattle.cover.proofs.RowLaws.{upto_most, upto_kept}
 use Rattle.cover.proofs.spread.Goals as goal
 
-start : {w : List ℕ} → Spread 0 w w
-start = record { kept = kept_none; capped = λ r x l o. absurd (omega arith) }
-
 none_open : {w : List ℕ} → Open w 0 0
 unfolding upto
 none_open = record { is = refl }
-
-small : {v : ℕ} (x : ℕ) → v ≡ min 2 x → v < 65_536
-small x e = omega arith
 
 module _ {w₀ w : List ℕ} {n r : ℕ} (p : Spreading w₀ n) (d : Spread r w₀ w) where
   marks : (i : ℕ) → i ≤ n → upto w MARKS i ≡ upto w₀ MARKS i
@@ -41,20 +30,17 @@ module _ {w₀ w : List ℕ} {n r : ℕ} (p : Spreading w₀ n) (d : Spread r w�
   back : {x : ℕ} → Open w (r + 1) x → r < n → Open w₀ (r + 1) x
   back o b = record { is = omega (arith, marks (r + 1) (omega arith), tallies (r + 1) (omega arith)) }
 
-  turn : {w' : List ℕ} {v : ℕ} (x : ℕ) → Open w (r + 1) x → v ≡ min 2 x → r < n → Set w w' SCRATCH r v → Spread (r + 1) w₀ w'
+  turn : {w' : List ℕ} {v : ℕ} (x : ℕ) → Open w (r + 1) x → v ≡ min x 2 → r < n → Set w w' SCRATCH r v → Spread (r + 1) w₀ w'
   turn {v} x o e b s =
       record {
         kept = kept_both d.kept (kept_set s (omega arith) (omega arith));
         capped = λ i y l q.
             below_more (λ i. (y : ℕ) → Open w₀ (i + 1) y → cell _ SCRATCH i ≡ min 2 y) r
             (λ i l y q. set-cell s SCRATCH i (omega arith) ∙ d.capped i y l q)
-            (λ y q. let f : x ≡ y = omega (arith, (back o b).is) in s.here ∙ e ∙ ap (min 2) f) i l y q;
+            (λ y q. let f : x ≡ y = omega (arith, (back o b).is) in omega (arith, s.here)) i l y q;
       }
 
-done : {old new : List ℕ} {r n : ℕ} → Spread r old new → r ≤ n → n ≤ r → Spread n old new
-done {r} {n} d l m = let e : r ≡ n = omega arith in rw (← e) d
-
-ruleset all = (start, none_open, small, next, back, turn, done, rules)
+ruleset all = (none_open, next, back, turn, rules)
 
 pub loop-r-init : goal.loop-r-init
 loop-r-init c = search all
@@ -62,14 +48,5 @@ loop-r-init c = search all
 pub open_at-running-requires : goal.open_at-running-requires
 open_at-running-requires c = search all
 
-pub capped-requires : goal.capped-requires
-capped-requires c = search all
-
-pub set_cell-requires : goal.set_cell-requires
-set_cell-requires c = search all
-
 pub loop-r-preserved : goal.loop-r-preserved
 loop-r-preserved c = search all
-
-pub returns : goal.returns
-returns c = search all

@@ -1,5 +1,5 @@
 -- What is open at a rank is that of the rank before it with its own two wide cells, and SCRATCH, which is set, is none of them. Assumes nothing.
-use Prim.Native.Nat.{◌≤◌, ◌-◌}
+use Rattle.std.proofs.Common.{◌≤◌, ◌-◌}
 use Rattle.cover.specs.Rows.{Open, Spread}
 use Rattle.cover.proofs.spread.Given as goal
 

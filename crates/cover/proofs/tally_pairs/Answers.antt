@@ -1,13 +1,7 @@
-use mathlib.Core.Path.{◌≡◌, refl}
-use mathlib.Core.List.{List}
-use Prim.Native.Nat.{ℕ, ◌≤◌, ◌<◌, ◌+◌}
-use native.Mathlib.Nat.{zero-add}
-use native.Mathlib.Numerals.{add-one}
-use native.Mathlib.Omega.{arith}
-use borrow.Author.Rules.{rules}
+use Rattle.std.proofs.Common.{◌≡◌, refl, List, ℕ, ◌≤◌, ◌<◌, ◌+◌, zero-add, arith, rules}
 use Rattle.cover.specs.Spans.{Ready}
 use Rattle.cover.specs.Rows.{pair_at, Open, meeting, meetings, PairSpans, Uncounted, Tallying, Tallied, Counted}
-use Rattle.cover.proofs.SpanLaws.{one_pair, ready-kept, meeting-kept}
+use Rattle.cover.proofs.SpanLaws.{one_pair, ready-kept, meetings-more}
 use Rattle.cover.proofs.RowLaws.{tallied_none, tallied_as, tallied_more}
 use Rattle.cover.proofs.tally_pairs.Goals as goal
 
@@ -32,8 +26,7 @@ module _ {w₀ w ps : List ℕ} {n m k : ℕ} {f : ℕ → ℕ} (d : Tallied n k
 
 turn : {w₀ w w' ps : List ℕ} {n m k : ℕ} (x : ℕ) → Tallied n k (meetings w₀ x ps k) w₀ w → Ready w₀ ps n m → k < m
     → Tallied n 1 (meeting w x (pair_at ps k)) w w' → Tallied n (k + 1) (meetings w₀ x ps (k + 1)) w₀ w'
-unfolding meetings
-turn {k} x d g l s = tallied_as (λ r. rw (add-one, meeting-kept d.kept g k x r l)) (tallied_more d s)
+turn {k} x d g l s = tallied_as (λ r. meetings-more d.kept g k x r l) (tallied_more d s)
 
 done : {w₀ w ps : List ℕ} {n m k x : ℕ} → Tallied n k (meetings w₀ x ps k) w₀ w → Ready w₀ ps n m → Uncounted w₀ n → k ≤ m → m ≤ k
     → Counted ps n m x w₀ w
@@ -47,7 +40,7 @@ done {w₀} {w} {ps} {n} {m} {k} {x} d g u l h =
     } in
     rw e at all
 
-ruleset all = (start, next, tallying, turn, done, rules)
+ruleset all = (start, next, turn, done, rules)
 
 pub loop-k-init : goal.loop-k-init
 loop-k-init c = search all

@@ -1,6 +1,6 @@
 -- The first k pairs are counted, and a turn counts one more. It changes no span, so that each pair covers what it covered at the start.
 -- Assumes nothing.
-use Prim.Native.Nat.{◌≤◌, ◌-◌}
+use Rattle.std.proofs.Common.{◌≤◌, ◌-◌}
 use Rattle.cover.specs.Rows.{meetings, Tallied}
 use Rattle.cover.proofs.tally_pairs.Given as goal
 
