@@ -6,6 +6,7 @@ use Prim.Native.Nat.{ℕ, ◌+◌, ◌*◌, ◌-◌, ◌/◌, ◌%◌, ◌≤◌
 use native.Mathlib.Omega.{arith}
 use lib.ListN.{length, replicate}
 use borrow.Author.Tests.{not-true, not-false}
+use Rattle.std.specs.Prelude.{Ok, Err, Option, Some, None}
 use Rattle.words.specs.Words.{Bytes, Written}
 use Rattle.paper.specs.Field.{holes_at, Ratio, ratio_ok, least_work}
 use Rattle.paper.specs.Record.{whole, written, built}
@@ -13,7 +14,6 @@ use Rattle.paper.specs.Refusals.{number, value, build, refused, given}
 use Rattle.paper.specs.Rules.{Repeats}
 use Rattle.paper.specs.declared.Refusal.{Refusal}
 use Rattle.paper.specs.declared.Refusal.TheVariants as R
-use Rattle.paper.specs.declared.Wrote.TheVariants as W
 use Rattle.paper.proofs.ListLaws.{both}
 use Rattle.theory.specs.Conditions.{First, here, later, all, ◌also◌}
 use Rattle.theory.specs.Conditions as due
@@ -24,8 +24,6 @@ use Rattle.theory.proofs.Fields.{nodes-tree}
 use Rattle.theory.proofs.Lengths.{length_whole}
 use Rattle.field.specs.Found.{Finds}
 use Rattle.field.specs.Buckets.{Searched}
-use Rattle.field.specs.declared.Found.{Found}
-use Rattle.field.specs.declared.Found.TheVariants.{At, Nothing}
 use Rattle.pairs.specs.Listing.{Listed, pairs_on}
 use Rattle.record.specs.Building.{Buildable, Drawn, front}
 use Rattle.record.specs.Outputs.{Blank, Made}
@@ -82,17 +80,13 @@ module _ {c : List ℕ} {a b n : ℕ} (f : Buildable c a b n) where
     r-is : r ≡ length (written (built a b (holes_at 2 c 0 (length c / 4))))
     r-is = rw count_is (l.next ∙ sym (length_is d))
 
-    pub no_room : {out'' : List ℕ} → length out' < r → out'' ≡ replicate (length out') 0 → Made (build c a b) (length w) out out'' (W.Refused (R.Room r))
+    pub no_room : {out'' : List ℕ} → length out' < r → out'' ≡ replicate (length out') 0 → Made (build c a b) (length w) out out'' (Err (R.Room r))
     no_room h z =
         let q = passed c a b (length w) (length out) at_count enough (here refl (omega (arith, r-is, l.len), r-is)) in
         refused_zeroed (R.Room r) q (rw (← l.len) z)
 
-    -- the place after the pairs, and so how many there are
-    pub pairs_end : 6 + 12 * n ≤ r
-    pairs_end = omega (arith, l.next)
-
     pub record-made : {out'' : List ℕ} → r ≤ length out' → Written out' out'' 0 (front c a b n ((r - (6 + 12 * n)) / 4) w)
-        → Made (build c a b) (length w) out out'' (W.Bytes r)
+        → Made (build c a b) (length w) out out'' (Ok r)
     record-made h s =
         let room : length (its_record c a b (length w) (length out)) ≤ length out = omega (arith, r-is, l.len) in
         finished blank (gives c a b (length w) (length out) at_count enough room) r-is room
@@ -101,27 +95,27 @@ module _ {c : List ℕ} {a b n : ℕ} (f : Buildable c a b n) where
 -- each refusal that comes before the record is looked at: what was tested before it is not due
 module _ (c out : List ℕ) (a b w : ℕ) (blank : Blank out) where
   module _ (r : Refusal) (first : First (due.builder c a b w (length out)) (number r) (value r)) where
-    pub refusing : Made (build c a b) w out out (W.Refused r)
+    pub refusing : Made (build c a b) w out out (Err r)
     refusing = refused_blank r blank ((build-refuses c a b w (length out) (number r) (value r)).1 first)
 
-  pub refuse_work : w < 65_536 → Made (build c a b) w out out (W.Refused R.Work)
+  pub refuse_work : w < 65_536 → Made (build c a b) w out out (Err R.Work)
   refuse_work l = refusing R.Work (here refl (l, refl))
 
   module _ (enough : 65_536 ≤ w) where
-    pub refuse-odd : (length c % 4 ≡ 0 → ⊥) → Made (build c a b) w out out (W.Refused (R.Odd (length c)))
+    pub refuse-odd : (length c % 4 ≡ 0 → ⊥) → Made (build c a b) w out out (Err (R.Odd (length c)))
     refuse-odd o = refusing (R.Odd (length c)) (later (λ y d. omega (arith, d.0)) (here refl (o, refl)))
 
     module _ (even : length c % 4 ≡ 0) where
-      pub refuse-none : length c / 4 ≡ 0 → Made (build c a b) w out out (W.Refused R.None)
+      pub refuse-none : length c / 4 ≡ 0 → Made (build c a b) w out out (Err R.None)
       refuse-none z = refusing R.None (later (λ y d. omega (arith, d.0)) (later (λ y d. d.0 even) (here refl (z, refl))))
 
-      pub refuse-many : 1_024 < length c / 4 → Made (build c a b) w out out (W.Refused (R.Many (length c / 4)))
+      pub refuse-many : 1_024 < length c / 4 → Made (build c a b) w out out (Err (R.Many (length c / 4)))
       refuse-many l =
           refusing (R.Many (length c / 4))
           (later (λ y d. omega (arith, d.0)) (later (λ y d. d.0 even) (later (λ y d. omega (arith, d.0)) (here refl (l, refl)))))
 
       module _ (some : length c / 4 ≡ 0 → ⊥) (few : length c / 4 ≤ 1_024) {t : Bool} (tested : t ≡ ratio_ok a b) where
-        pub refuse-ratio : not t ≡ true → Made (build c a b) w out out (W.Refused R.Ratio)
+        pub refuse-ratio : not t ≡ true → Made (build c a b) w out out (Err R.Ratio)
         refuse-ratio e =
             refusing R.Ratio
             (later (λ y d. omega (arith, d.0))
@@ -134,10 +128,10 @@ module _ (c out : List ℕ) (a b w : ℕ) (blank : Blank out) where
           right : Ratio a b
           right = (ratio_is a b).0 (sym tested ∙ not-false t e)
 
-          pub refuse-twice : {u v : List ℕ} {s : Found} {i : ℕ} → Searched c 2 (length c / 4) u v s → s ≡ At i
-              → Made (build c a b) w out out (W.Refused (R.Twice i))
+          pub refuse-twice : {u v : List ℕ} {s : Option ℕ} {i : ℕ} → Searched c 2 (length c / 4) u v s → s ≡ Some i
+              → Made (build c a b) w out out (Err (R.Twice i))
           refuse-twice {i} d q =
-              let g : Finds (Repeats (holes_at 2 c 0 (length c / 4))) (length c / 4) (At i) = rw q at d.found in
+              let g : Finds (Repeats (holes_at 2 c 0 (length c / 4))) (length c / 4) (Some i) = rw q at d.found in
               refusing (R.Twice i)
               (later (λ y d. omega (arith, d.0))
               (later (λ y d. d.0 even)
@@ -147,11 +141,11 @@ module _ (c out : List ℕ) (a b w : ℕ) (blank : Blank out) where
               (here refl (rw (length_holes 2 c 0 (length c / 4)) g)))))))
 
 -- a field that none of the first six refusals is due for
-pub buildable : (c : List ℕ) → Bytes c → (a b : ℕ) {t : Bool} {u v : List ℕ} {s : Found} → t ≡ ratio_ok a b → not t ≡ false
-    → Searched c 2 (length c / 4) u v s → s ≡ Nothing → length c % 4 ≡ 0 → (length c / 4 ≡ 0 → ⊥)
+pub buildable : (c : List ℕ) → Bytes c → (a b : ℕ) {t : Bool} {u v : List ℕ} {s : Option ℕ} → t ≡ ratio_ok a b → not t ≡ false
+    → Searched c 2 (length c / 4) u v s → s ≡ None → length c % 4 ≡ 0 → (length c / 4 ≡ 0 → ⊥)
     → length c / 4 ≤ 1_024 → Buildable c a b (length c / 4)
 buildable c small a b {t} tested e d q even some few =
-    let g : Finds (Repeats (holes_at 2 c 0 (length c / 4))) (length c / 4) Nothing = rw q at d.found in
+    let g : Finds (Repeats (holes_at 2 c 0 (length c / 4))) (length c / 4) None = rw q at d.found in
     record {
       even = omega arith;
       some = omega arith;

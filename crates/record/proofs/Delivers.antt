@@ -6,15 +6,14 @@ use Prim.Native.Nat.{ℕ, ◌+◌, ◌-◌, ◌/◌, ◌≤◌}
 use native.Mathlib.Omega.{arith}
 use lib.ListN.{length, take, drop, replicate, length-append, length-replicate}
 use lib.Seq.{take-append_seam, drop-append_seam}
+use Rattle.std.specs.Prelude.{Result, Ok}
 use Rattle.words.specs.Words.{Bytes}
 use Rattle.paper.specs.Field.{least_work}
 use Rattle.paper.specs.Pairs.{pairs_of}
 use Rattle.paper.specs.Record.{View, written, built, whole}
 use Rattle.paper.specs.Refusals.{Answer, refused, given, build, check}
 use Rattle.paper.specs.Answers.{counted, left_in, Builds, Checks}
-use Rattle.paper.specs.declared.Wrote.TheVariants as W
-use Rattle.paper.specs.declared.Checked.{Checked}
-use Rattle.paper.specs.declared.Checked.TheVariants.{Taken}
+use Rattle.paper.specs.declared.Refusal.{Refusal}
 use Rattle.theory.proofs.BuildCheck.{build-check, read_back, grown-back, written_back, holes-back}
 use Rattle.theory.proofs.Checker.{taken_is}
 use Rattle.theory.proofs.Unique.{one_check}
@@ -60,19 +59,19 @@ module _ (c : List ℕ) (small : Bytes c) (a b w : ℕ) (out' : List ℕ) (o : �
           again = rw front (written_back c small a b w o r finished);
         }
 
-module _ (c : List ℕ) (small : Bytes c) (a b : ℕ) (work work' out out' : List ℕ) (n : ℕ) (s : Builds c a b (W.Bytes n) work work' out out') where
+module _ (c : List ℕ) (small : Bytes c) (a b : ℕ) (work work' out out' : List ℕ) (n : ℕ) (s : Builds c a b (Ok n) work work' out out') where
   pub delivers : Delivered c a b n out'
   delivers =
       let g = given_bytes (build c a b (length work) (length out)) n s.answer in
       rw (← g.2) (delivered c small a b (length work) out' (length out) g.0 g.1 s.output)
 
   -- `check` takes what `build` finishes, in any work area that is large enough
-  pub build_taken : (area area' : List ℕ) {k : Checked} → Checks (take n out') k area area' → least_work ≤ length area
-      → k ≡ Taken (length c / 4) (length (pairs_of (field_of c) a b))
+  pub build_taken : (area area' : List ℕ) {k : Result (ℕ × ℕ) Refusal} → Checks (take n out') k area area' → least_work ≤ length area
+      → k ≡ Ok (length c / 4, length (pairs_of (field_of c) a b))
   build_taken area area' {k} t l =
       let g = given_bytes (build c a b (length work) (length out)) n s.answer in
       let e : check (take n out') (length area) ≡ given (length c / 4, length (pairs_of (field_of c) a b)) =
       rw (← g.2) (taken-record c small a b (length work) out' (length out) g.0 g.1 s.output (length area) l) in
-      let u : Checks (take n out') (Taken (length c / 4) (length (pairs_of (field_of c) a b))) area area' =
+      let u : Checks (take n out') (Ok (length c / 4, length (pairs_of (field_of c) a b))) area area' =
       record { answer = sym e; wiped = t.wiped } in
       (one_check refl (take n out') t u).0

@@ -13,7 +13,6 @@ use Rattle.paper.specs.Separation.{far, side}
 use Rattle.paper.specs.Pairs.{pairs_of, numbers}
 use Rattle.paper.specs.Record.{entries, nodes_of, leaf_mark}
 use Rattle.paper.specs.Rules.{hole_count, node_count}
-use Rattle.paper.specs.Refusals.{build}
 use Rattle.theory.specs.Trees.{Met, leaves}
 use Rattle.theory.proofs.Reading.{length_holes, holes_flat}
 use Rattle.theory.proofs.Subtrees.{Sub}
@@ -22,16 +21,13 @@ use Rattle.theory.proofs.Numbering.{under_sub, grow_back, number_sub, node-rule}
 use Rattle.theory.proofs.Pairing.{Regular}
 use Rattle.theory.proofs.PairsAgree.{pairs_agree}
 use Rattle.theory.proofs.FieldPairs.{regular}
-use Rattle.field.specs.Boxes.{HolesIn, box_on}
+use Rattle.field.specs.Boxes.{box_on}
 use Rattle.field.proofs.Boxes.{box_high}
 use Rattle.tree.specs.Standing.{tree_on, Stands}
-use Rattle.tree.specs.Steps.{Summed}
-use Rattle.tree.specs.Planting.{FieldIn, Grown}
+use Rattle.tree.specs.Planting.{Grown}
 use Rattle.tree.proofs.Views.{on_holes, same-tree}
-use Rattle.pairs.specs.Listing.{far_on, long_on, grown_on, Shapes, Boxes, ShapesPut}
+use Rattle.pairs.specs.Listing.{far_on, long_on, grown_on, Shapes}
 use Rattle.record.specs.Building.{Buildable, Sized, Drawn}
-use Rattle.record.specs.Outputs.{Made}
-use Rattle.paper.specs.declared.Wrote.{Wrote}
 
 module _ {c : List ℕ} {a b n : ℕ} (f : Buildable c a b n) (w : List ℕ) (grid : Grid w) (nodes : (tree_on w n).nodes ≡ entries (tree_of (holes_at 2 c 0 n))) where
   some_holes : 1 ≤ length (holes_at 2 c 0 n)
@@ -101,12 +97,6 @@ module _ {c : List ℕ} {a b n : ℕ} (f : Buildable c a b n) {old mid : List �
   pub planted : Stands mid n
   planted = stands f mid (omega (arith, g.len)) g.nodes
 
-  -- an answer speaks of the work area's length alone, which no step changes
-  pub made_as : {last out out' : List ℕ} {r : Wrote} → Sized c a b n mid last → Made (build c a b) (length last) out out' r → Made (build c a b) (length old) out out' r
-  made_as {last} s m =
-      let e : length last ≡ length old = s.shapes.kept.len ∙ s.summed.len ∙ g.len in
-      rw e at m
-
   pub shaped : {last : List ℕ} → Sized c a b n mid last → Drawn c a b n last
   shaped {last} z =
       let s = z.summed in
@@ -134,23 +124,3 @@ module _ {c : List ℕ} {a b n : ℕ} (f : Buildable c a b n) {old mid : List �
             number_sub (tree_on mid n) (tree_of (holes_at 2 c 0 n)) (met f mid (omega (arith, g.len)) g.nodes) (all_leaves f mid (omega (arith, g.len)) g.nodes)
                 g.nodes (few_nodes f mid (omega (arith, g.len)) g.nodes) t q,
           )
-
--- what the steps ask
-pub boxes_there : {c w new : List ℕ} {n : ℕ} → Stands w n → Summed c 2 n w new → Boxes new 2 n
-boxes_there t s =
-    record {
-      grid = omega (arith, t.grid, s.len);
-      axes = record { some = omega arith; few = omega arith };
-      some = t.some;
-      few = t.few;
-    }
-
-pub sized_up : {c w mid new : List ℕ} {a b n : ℕ} → Summed c 2 n w mid → ShapesPut 2 a b n mid new → Sized c a b n w new
-sized_up {mid} s p = record { between = mid; summed = s; shapes = p }
-
-module _ {c : List ℕ} {a b n : ℕ} (f : Buildable c a b n) where
-  pub holes_in_list : HolesIn c 2 n
-  holes_in_list = record { axes = record { some = omega arith; few = omega arith }; few = f.few; all = omega (arith, f.even) }
-
-  pub field_in_list : FieldIn c 2 n
-  field_in_list = record { holes = holes_in_list; some = f.some; distinct = f.distinct }

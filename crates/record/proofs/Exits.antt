@@ -17,7 +17,7 @@ use Rattle.theory.specs.Conditions.{First, here, later}
 use Rattle.theory.specs.Conditions as due
 use Rattle.theory.proofs.Statements.{ratio_is}
 use Rattle.theory.proofs.Orders.{refused_is, cutting_agrees}
-use Rattle.record.specs.Cutting.{Begun, PartsOf, cut_answer}
+use Rattle.record.specs.Cutting.{Begun, cut_answer}
 
 module _ (r : List ℕ) where
   -- the answer is the first refusal that is due
@@ -107,24 +107,3 @@ module _ (r : List ℕ) where
                 passed-pairs _ _
                 (later (λ y d. omega (arith, d.0, right-pairs))
                 (later (λ y d. omega (arith, d.0, pairs-read)) (here refl (omega (arith, pairs-read), refl))))
-
-            pub whole : 6 + 12 * n + 4 * m ≤ length r → length r ≤ 6 + 12 * n + 4 * m
-                → PartsOf r (record { a = a; b = b; n = n; m = m; holes = 4; nodes = 6 + 4 * n; pairs = 6 + 12 * n })
-            whole s t =
-                record {
-                  framing = record {
-                    ratio = begun.ratio;
-                    some = omega arith;
-                    few = omega arith;
-                    nodes_right = right-nodes;
-                    pairs_right = right-pairs;
-                    end = omega (arith, pairs-read);
-                  };
-                  a_is = begun.a_is;
-                  b_is = begun.b_is;
-                  n_is = begun.n_is;
-                  m_is = pairs-read;
-                  holes_is = refl;
-                  nodes_is = omega arith;
-                  pairs_is = omega arith;
-                }

@@ -25,7 +25,7 @@ use Rattle.theory.proofs.Orders.{loose_is}
 use Rattle.theory.proofs.Named.{not_loose}
 use Rattle.theory.proofs.Reading.{length_holes}
 use Rattle.theory.proofs.RoundTrip.{view_holes}
-use Rattle.field.specs.declared.Found.TheVariants.{Nothing}
+use Rattle.std.specs.Prelude.{None}
 use Rattle.tree.specs.Standing.{tree_on, tree_in, Stands}
 use Rattle.tree.specs.Steps.{Loading, Summed}
 use Rattle.tree.proofs.Views.{in_holes, same-tree}
@@ -82,7 +82,7 @@ module _ {r hs ns : List ℕ} (s : Shown r hs ns) where
     due-tree d = later none-twice (here refl (least-same (sym (nodes_count r)) broken d))
 
     -- 12: the marks tell the nodes that none names
-    module _ {old new : List ℕ} (l : Loading ns (holes_in r) old new Nothing) where
+    module _ {old new : List ℕ} (l : Loading ns (holes_in r) old new None) where
       met : (k : ℕ) → k < nodes_of (holes_in r) → NodeRule (tree_in ns (holes_in r)) k
       met k b = stable (node_is (tree_in ns (holes_in r)) k) (l.found k b)
 

@@ -1,49 +1,25 @@
 -- What `inspect_pairs` asks of each step and answers at each return, over plain variables: the steps' findings are the record's. Assumes nothing.
 use mathlib.Core.Path.{◌≡◌, refl, sym, ◌∙◌}
 use mathlib.Core.List.{List}
-use Prim.Native.Nat.{ℕ, ◌+◌, ◌*◌, ◌-◌, ◌/◌, ◌<◌, ◌≤◌}
-use native.Mathlib.Nat.{mul-le-mul}
-use native.Mathlib.Omega.{arith}
+use Prim.Native.Nat.{ℕ, ◌+◌, ◌*◌, ◌<◌, ◌≤◌}
 use lib.ListN.{length}
 use Rattle.paper.specs.Field.{Ratio}
 use Rattle.paper.specs.Record.{holes_in, pairs_in, two_numbers_at, view_of}
 use Rattle.paper.specs.declared.Refusal.TheVariants as R
 use Rattle.theory.proofs.Checker.{record_is, taken_is}
 use Rattle.field.specs.Found.{Finds}
-use Rattle.field.specs.declared.Found.{Found}
-use Rattle.field.specs.declared.Found.TheVariants.{At, Nothing}
+use Rattle.std.specs.Prelude.{Option, Some, None}
 use Rattle.tree.specs.Standing.{Stands}
 use Rattle.tree.specs.Steps.{Summed, Counted, Ranked}
-use Rattle.pairs.specs.Checking.{PairsIn, PairOn}
+use Rattle.pairs.specs.Checking.{PairOn}
 use Rattle.cover.specs.Spans.{Ready, FindsTwo, Covering, coverings}
-use Rattle.cover.specs.declared.Two.{Two}
-use Rattle.cover.specs.declared.Two.TheVariants.{Both, Neither}
 use Rattle.record.specs.Cutting.{PartsOf, holes_slice, pairs_slice}
 use Rattle.record.specs.Inspecting.{Measured, Inspection, Refusing}
 use Rattle.record.specs.declared.Parts.{Parts}
 use Rattle.record.proofs.Slices.{holes_said, pairs-length, pairs_said, pair_said}
+use Rattle.record.proofs.PartLaws.{counts_fit}
 use Rattle.record.proofs.Answers.{framed, content_refused}
 use Rattle.record.proofs.PairsMeant.{Listed, standing, counted, due-pair, ready, due-cover, meant, stands-still, filled}
-
--- the first n pairs of holes
-few_pairs : (n m : ℕ) → n ≤ 1_024 → m ≤ n * (n - 1) / 2 → m ≤ 523_776
-few_pairs n m l h =
-    let g : n * (n - 1) ≤ 1_024 * 1_023 = mul-le-mul l (sub n l) in
-    omega arith
-  where
-    sub : (n : ℕ) → n ≤ 1_024 → n - 1 ≤ 1_023
-    sub n l = omega arith
-
--- two holes that are found are numbers of holes
-pub record SmallTwo (i j : ℕ) : Type 0 where
-  pub first : i < 1_024
-  pub second : j < 1_024
-
-pub small : {r ps last end : List ℕ} {p : Parts} {t : Two} {i j : ℕ} → PartsOf r p → Covering ps p.n p.m last end t → t ≡ Both i j
-    → SmallTwo i j
-small {ps} {last} {p} {i} {j} k g b =
-    let x : FindsTwo (λ q. coverings last ps p.m q ≡ 1 → ⊥) p.n (Both i j) = rw b at g.found in
-    record { first = omega (arith, x.order, x.within, k.n_is, k.framing.few); second = omega (arith, x.within, k.n_is, k.framing.few) }
 
 module _ {r w ps : List ℕ} {p : Parts} (k : PartsOf r p) (m : Measured r w) (e : ps ≡ pairs_slice r) where
   listed : Listed r ps p.a p.b
@@ -51,18 +27,7 @@ module _ {r w ps : List ℕ} {p : Parts} (k : PartsOf r p) (m : Measured r w) (e
   listed = rw e (record { pairs = pairs_said r; pair = pair_said r; a_is = sym k.a_is; b_is = sym k.b_is })
 
   few : p.m ≤ 523_776
-  few = let f = k.framing in rw k.m_is (few_pairs (holes_in r) (pairs_in r) f.few f.pairs_right)
-
-  pub pairs_there : PairsIn w ps p.n p.m
-  pairs_there =
-      let f = k.framing in
-      record {
-        grid = m.grid;
-        some = rw k.n_is f.some;
-        few = rw k.n_is f.few;
-        all = rw e (omega (arith, pairs-length r f, k.m_is));
-        most = few;
-      }
+  few = (counts_fit k).pairs
 
   pub ratio : Ratio p.a p.b
   ratio = rw (k.a_is, k.b_is) k.framing.ratio
@@ -78,18 +43,18 @@ module _ {r w ps : List ℕ} {p : Parts} (k : PartsOf r p) (m : Measured r w) (e
   refused f = content_refused r (length w) (framed r (length w) k.framing m.grid) f
 
   -- 13
-  pub is_pair : {f : Found} {i : ℕ} → Finds (λ j. PairOn w 2 p.a p.b p.n (two_numbers_at ps (4 * j)) → ⊥) p.m f → f ≡ At i
+  pub is_pair : {f : Option ℕ} {i : ℕ} → Finds (λ j. PairOn w 2 p.a p.b p.n (two_numbers_at ps (4 * j)) → ⊥) p.m f → f ≡ Some i
       → Refusing r w w (R.Pair i)
   is_pair {i} d q =
-      let t : Finds (λ j. PairOn w 2 p.a p.b p.n (two_numbers_at ps (4 * j)) → ⊥) p.m (At i) = rw q at d in
+      let t : Finds (λ j. PairOn w 2 p.a p.b p.n (two_numbers_at ps (4 * j)) → ⊥) p.m (Some i) = rw q at d in
       record { len = refl; refused = refused (due-pair m listed (rw (k.n_is, k.m_is) at t)) }
 
   -- from here on no pair is bad
-  module _ {f : Found} (d : Finds (λ j. PairOn w 2 p.a p.b p.n (two_numbers_at ps (4 * j)) → ⊥) p.m f) (q : f ≡ Nothing)
+  module _ {f : Option ℕ} (d : Finds (λ j. PairOn w 2 p.a p.b p.n (two_numbers_at ps (4 * j)) → ⊥) p.m f) (q : f ≡ None)
       {last : List ℕ} (l : Ranked p.n w last) where
     good : (j : ℕ) → j < pairs_in r → (PairOn w 2 p.a p.b (holes_in r) (two_numbers_at ps (4 * j)) → ⊥) → ⊥
     good =
-        let t : Finds (λ j. PairOn w 2 p.a p.b p.n (two_numbers_at ps (4 * j)) → ⊥) p.m Nothing = rw q at d in
+        let t : Finds (λ j. PairOn w 2 p.a p.b p.n (two_numbers_at ps (4 * j)) → ⊥) p.m None = rw q at d in
         rw (k.n_is, k.m_is) at t
 
     ranked : Ranked (holes_in r) w last
@@ -101,17 +66,17 @@ module _ {r w ps : List ℕ} {p : Parts} (k : PartsOf r p) (m : Measured r w) (e
         (ready m listed good k.framing.some k.framing.few ranked ratio.a_low (rw e (pairs-length r k.framing)) (rw k.m_is at few))
 
     -- 14
-    module _ {end : List ℕ} {t : Two} (g : Covering ps p.n p.m last end t) where
-      pub is-cover : {i j : ℕ} → t ≡ Both i j → Refusing r w end (R.Cover (1_024 * i + j))
+    module _ {end : List ℕ} {t : Option (ℕ × ℕ)} (g : Covering ps p.n p.m last end t) where
+      pub is-cover : {i j : ℕ} → t ≡ Some (i, j) → Refusing r w end (R.Cover (1_024 * i + j))
       is-cover {i} {j} b =
-          let x : FindsTwo (λ q. coverings last ps p.m q ≡ 1 → ⊥) p.n (Both i j) = rw b at g.found in
+          let x : FindsTwo (λ q. coverings last ps p.m q ≡ 1 → ⊥) p.n (Some (i, j)) = rw b at g.found in
           record {
             len = g.len ∙ l.len;
             refused = refused (due-cover m listed good k.framing.some k.framing.few ranked (rw (k.n_is, k.m_is) at x));
           }
 
-      module _ (b : t ≡ Neither) where
-        covered : Covering ps (holes_in r) (pairs_in r) last end Neither
+      module _ (b : t ≡ None) where
+        covered : Covering ps (holes_in r) (pairs_in r) last end None
         covered = rw (b, k.n_is, k.m_is) at g
 
         pub stands-again : Stands end p.n

@@ -43,7 +43,7 @@ use Rattle.tree.proofs.Summed.{summed_tree}
 use Rattle.tree.proofs.Views.{same-tree}
 use Rattle.pairs.specs.Checking.{PairOn}
 use Rattle.cover.specs.Spans.{spans, in_span, covers_on, coverings, Ready, Covering}
-use Rattle.cover.specs.declared.Two.TheVariants.{Neither}
+use Rattle.std.specs.Prelude.{None}
 use Rattle.record.specs.Inspecting.{Measured, Filled}
 use Rattle.record.proofs.NodesMeant.{least-same, nodes_count}
 
@@ -219,7 +219,7 @@ module _ {r w : List ℕ} (m : Measured r w) where
             }
 
         -- every two are covered once: all the rules are met, and the slate is filled
-        module _ {end : List ℕ} (g : Covering ps (holes_in r) (pairs_in r) last end Neither) where
+        module _ {end : List ℕ} (g : Covering ps (holes_in r) (pairs_in r) last end None) where
           once : (i j : ℕ) → i < j → j < holes_in r → OnePair (view_of r) i j
           once i j l h = (once_is i j (omega arith) h).0 (stable (equal (coverings last ps (pairs_in r) (i, j)) 1) (g.found i j l h))
 

@@ -1,29 +1,44 @@
--- A part of a slice: where it stands, and that the parts that `cut` names are the record's. Assumes nothing.
-use mathlib.Core.Path.{◌≡◌, ap, ap₂, ◌∙◌}
+-- The sections by the parts that `cut` names: no size wraps, and each place is that of document 01's part. Assumes nothing.
+use mathlib.Core.Path.{◌≡◌, ap}
 use mathlib.Core.List.{List}
-use Prim.Native.Nat.{ℕ, ◌+◌, ◌*◌, ◌-◌}
+use Prim.Native.Nat.{ℕ, ◌+◌, ◌*◌, ◌-◌, ◌/◌, ◌≤◌}
+use native.Mathlib.Nat.{mul-le-mul}
 use native.Mathlib.Omega.{arith}
-use denote.Ref.{Bor}
-use lib.ListN.{take, drop}
-use Rattle.paper.specs.Answers.{PartAt}
-use Rattle.record.specs.Cutting.{PartsOf, holes_slice, nodes_slice, pairs_slice}
+use lib.ListN.{length}
+use Rattle.paper.specs.Record.{holes_part, nodes_part, pairs_part, holes_in, pairs_in}
+use Rattle.record.specs.Cutting.{PartsOf, CountsFit}
+use Rattle.record.specs.Sections.{part_of, named_place}
 use Rattle.record.specs.declared.Parts.{Parts}
+use Rattle.record.specs.declared.Section.{Section}
+use Rattle.record.specs.declared.Section.TheVariants as S
 
-pub whole : (s r : Bor (List ℕ)) (at size : ℕ) → r.ref_ptr.0 ≡ s.ref_ptr.0 → r.ref_ptr.1 ≡ at + s.ref_ptr.1
-    → r.now ≡ take (at + size - at) (drop at s.now) → PartAt s r (record { start = at; size = size })
-whole s r at size a b c =
-    let e : at + size - at ≡ size = omega arith in
-    record { block = a; place = b; bytes = rw e at c }
+-- the counts that `cut` names
+few_pairs : (n m : ℕ) → n ≤ 1_024 → m ≤ n * (n - 1) / 2 → m ≤ 523_776
+few_pairs n m l h =
+    let below : n - 1 ≤ 1_023 = omega arith in
+    let g : n * (n - 1) ≤ 1_024 * 1_023 = mul-le-mul l below in
+    omega arith
 
-same_part : (r : List ℕ) {at size x y : ℕ} → at ≡ x → size ≡ y → take size (drop at r) ≡ take y (drop x r)
-same_part r e f = ap₂ (λ (a n : ℕ). take n (drop a r)) e f
+module _ {r : List ℕ} {p : Parts} (k : PartsOf r p) where
+  pub counts_fit : CountsFit p
+  counts_fit =
+      let f = k.framing in
+      record { some = rw k.n_is f.some; few = rw k.n_is f.few; pairs = rw k.m_is (few_pairs (holes_in r) (pairs_in r) f.few f.pairs_right) }
 
-module _ {s r : Bor (List ℕ)} {p : Parts} (k : PartsOf s.now p) where
-  pub hole_slice : PartAt s r (record { start = p.holes; size = 4 * p.n }) → r.now ≡ holes_slice s.now
-  hole_slice w = w.bytes ∙ same_part s.now k.holes_is (ap (λ (n : ℕ). 4 * n) k.n_is)
+  -- a section's place
+  pub start_named : (w : Section) → (named_place p w).start ≡ (part_of w r).start
+  unfolding holes_part nodes_part pairs_part
+  start_named S.Holes = k.holes_is
+  start_named S.Nodes = k.nodes_is
+  start_named S.Pairs = k.pairs_is
 
-  pub node_slice : PartAt s r (record { start = p.nodes; size = 4 * (2 * p.n - 1) }) → r.now ≡ nodes_slice s.now
-  node_slice w = w.bytes ∙ same_part s.now k.nodes_is (ap (λ (n : ℕ). 4 * (2 * n - 1)) k.n_is)
+  pub size_named : (w : Section) → (named_place p w).size ≡ (part_of w r).size
+  unfolding holes_part nodes_part pairs_part
+  size_named S.Holes = ap (λ (n : ℕ). 4 * n) k.n_is
+  size_named S.Nodes = ap (λ (n : ℕ). 4 * (2 * n - 1)) k.n_is
+  size_named S.Pairs = ap (λ (m : ℕ). 4 * m) k.m_is
 
-  pub pair_slice : PartAt s r (record { start = p.pairs; size = 4 * p.m }) → r.now ≡ pairs_slice s.now
-  pair_slice w = w.bytes ∙ same_part s.now k.pairs_is (ap (λ (m : ℕ). 4 * m) k.m_is)
+  pub inside_record : (w : Section) → (named_place p w).start + (named_place p w).size ≤ length r
+  inside_record S.Holes = omega (arith, k.holes_is, k.n_is, k.framing.end)
+  inside_record S.Nodes = omega (arith, k.nodes_is, k.n_is, k.framing.some, k.framing.end)
+  inside_record S.Pairs = omega (arith, k.pairs_is, k.m_is, k.framing.end)

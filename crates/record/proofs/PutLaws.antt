@@ -6,7 +6,7 @@ use native.Mathlib.Numerals.{add-one}
 use native.Mathlib.Omega.{arith}
 use lib.ListN.{length, length-append}
 use Rattle.words.specs.Words.{bytes, Written}
-use Rattle.words.proofs.Laws.{length-bytes, written_none, written_more}
+use Rattle.words.proofs.Laws.{length-bytes, written_more}
 use Rattle.slate.specs.Columns.{FIRST, SECOND}
 use Rattle.slate.specs.Slate.{cell, Held}
 use Rattle.paper.specs.Lists.{joined, from}
@@ -15,9 +15,9 @@ use Rattle.tree.specs.Standing.{tree_on}
 use Rattle.record.specs.Building.{HeadFits, head, node_bytes}
 
 -- a node's two numbers
-pub entry_done : (k : ℕ) {w a b c : List ℕ} {at x y : ℕ} → Held w FIRST k x → Held w SECOND k y → Written a b at (bytes 2 x) → Written b c (at + 2) (bytes 2 y)
+pub entry_done : (k : ℕ) {w a c : List ℕ} {at x y : ℕ} → Held w FIRST k x → Held w SECOND k y → Written a c at (two_numbers (x, y))
     → Written a c at (two_numbers (cell w FIRST k, cell w SECOND k))
-entry_done k {x} p q s t = rw (← p.is, ← q.is) (written_more s t (omega (arith, length-bytes 2 x)))
+entry_done k p q t = rw (← p.is, ← q.is) t
 
 -- two bytes as one number
 two_bytes : (a b : ℕ) → a < 256 → b < 256 → bytes 2 (256 * a + b) ≡ a ∷ b ∷ []
@@ -64,9 +64,6 @@ length-entries w i (suc n) =
 -- the nodes below k
 pub record EntriesPut (w : List ℕ) (n k : ℕ) (old new : List ℕ) : Type 0 where
   pub put : Written old new (6 + 4 * n) (entries_from w 0 k)
-
-pub none_put : {w a : List ℕ} {n : ℕ} → EntriesPut w n 0 a a
-none_put = record { put = written_none }
 
 pub one_put : (k : ℕ) {w a b c : List ℕ} {n : ℕ} → EntriesPut w n k a b
     → Written b c (6 + 4 * n + 4 * k) (two_numbers (cell w FIRST k, cell w SECOND k)) → EntriesPut w n (k + 1) a c

@@ -1,6 +1,6 @@
 -- What `inspect` answers, and what it leaves on the slate of a record that is taken: its tree, and for each node how many holes are under it, the
 -- lowest of them, their box and their stretch of the ranks. Assumes nothing.
-use Rattle.std.specs.Prelude.{◌≡◌, ◌≢◌, List, ℕ, ◌+◌, ◌<◌, ◌≤◌, length, get_or, take, drop, replicate}
+use Rattle.std.specs.Prelude.{◌≡◌, ◌≢◌, List, ℕ, ◌+◌, ◌<◌, ◌≤◌, length, get_or, take, drop, replicate, Result, Ok, Err}
 use Rattle.slate.specs.Columns.{HOLES, LOWEST, FROM, ORDER, RANK}
 use Rattle.slate.specs.Slate.{cell, column, Grid}
 use Rattle.paper.specs.Field.{hole}
@@ -10,14 +10,13 @@ use Rattle.paper.specs.Rules.{hole_count, node_count, NodeRule, under_node, Reco
 use Rattle.paper.specs.Refusals.{given, check}
 use Rattle.paper.specs.Questions.{lowest, section}
 use Rattle.paper.specs.Answers.{refuses}
+use Rattle.paper.specs.declared.Refusal.{Refusal}
 use Rattle.theory.specs.Trees.{Alike}
 use Rattle.field.specs.Boxes.{box_on}
 use Rattle.tree.specs.Standing.{tree_on}
 use Rattle.record.specs.Cutting.{PartsOf}
 use Rattle.record.specs.declared.Parts.{Parts}
 use Rattle.record.specs.declared.Place.{Place}
-use Rattle.record.specs.declared.Inspected.{Inspected}
-use Rattle.record.specs.declared.Inspected.TheVariants.{Fine, Refused}
 
 pub record Filled (r w : List ℕ) : Type 0 where
   pub grid : Grid w
@@ -50,13 +49,13 @@ pub record Inspection (r old new : List ℕ) (p : Parts) : Type 0 where
   pub filled : Filled r new
 
 -- a refusal is the checker's
-pub record Refusing (r old new : List ℕ) (x : Rattle.paper.specs.declared.Refusal.Refusal) : Type 0 where
+pub record Refusing (r old new : List ℕ) (x : Refusal) : Type 0 where
   pub len : length new ≡ length old
   pub refused : check r (length old) ≡ refuses x
 
-abbrev pub InspectSays : List ℕ → List ℕ → List ℕ → Inspected → Type 0
-InspectSays r old new (Fine p) = Inspection r old new p
-InspectSays r old new (Refused x) = Refusing r old new x
+abbrev pub InspectSays : List ℕ → List ℕ → List ℕ → Result Parts Refusal → Type 0
+InspectSays r old new (Ok p) = Inspection r old new p
+InspectSays r old new (Err x) = Refusing r old new x
 
 -- the same when the slate is wiped: the questions that need no more than the parts
 pub record Taking (r old new : List ℕ) (p : Parts) : Type 0 where
@@ -64,13 +63,13 @@ pub record Taking (r old new : List ℕ) (p : Parts) : Type 0 where
   pub taken : check r (length old) ≡ given (holes_in r, pairs_in r)
   pub wiped : new ≡ replicate (length old) 0
 
-pub record Declining (r old new : List ℕ) (x : Rattle.paper.specs.declared.Refusal.Refusal) : Type 0 where
+pub record Declining (r old new : List ℕ) (x : Refusal) : Type 0 where
   pub refused : check r (length old) ≡ refuses x
   pub wiped : new ≡ replicate (length old) 0
 
-abbrev pub TakeSays : List ℕ → List ℕ → List ℕ → Inspected → Type 0
-TakeSays r old new (Fine p) = Taking r old new p
-TakeSays r old new (Refused x) = Declining r old new x
+abbrev pub TakeSays : List ℕ → List ℕ → List ℕ → Result Parts Refusal → Type 0
+TakeSays r old new (Ok p) = Taking r old new p
+TakeSays r old new (Err x) = Declining r old new x
 
 -- the place of a section, inside the record: `part` is holes_part, nodes_part or pairs_part
 pub record Located (part : List ℕ → Part) (r old new : List ℕ) (p : Place) : Type 0 where

@@ -1,4 +1,5 @@
 pub mod Cutting
+pub mod Sections
 pub mod Inspecting
 pub mod Building
 pub mod Delivered

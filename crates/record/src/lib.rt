@@ -6,10 +6,11 @@ ghost use Rattle.std.specs.Prelude.{◌≡◌, ◌+◌, ◌*◌, ◌-◌, ◌/�
 ghost use Rattle.slate.specs.Columns.{FIRST, SECOND};
 ghost use Rattle.slate.specs.Slate.{cell, Grid};
 ghost use Rattle.paper.specs.Field.{Ratio, ratio_ok};
-ghost use Rattle.paper.specs.Record.{holes_part, nodes_part, pairs_part, two_numbers};
+ghost use Rattle.paper.specs.Record.{two_numbers};
 ghost use Rattle.paper.specs.Refusals.{build};
 ghost use Rattle.paper.specs.Answers.{PartAt, Builds, Checks, HandsBack};
-ghost use Rattle.record.specs.Cutting.{CutSays, Begun, PartsOf, holes_slice, nodes_slice, pairs_slice};
+ghost use Rattle.record.specs.Cutting.{CutSays, Begun, PartsOf, CountsFit, slice_of};
+ghost use Rattle.record.specs.Sections.{part_of, named_place};
 ghost use Rattle.record.specs.Inspecting.{InspectSays, TakeSays, Measured, Located};
 ghost use Rattle.words.specs.Words.{bytes, Written};
 ghost use Rattle.paper.specs.Lists.{joined};
@@ -18,9 +19,7 @@ ghost use Rattle.record.specs.Building.{HeadFits, NodesFit, head, node_bytes, fr
 ghost use Rattle.record.specs.Outputs.{Blank, Made};
 ghost use Rattle.field.specs.Boxes.{HolesIn};
 
-use cover::Two;
-use field::Found;
-use paper::{Checked, Refusal, Wrote};
+use paper::Refusal;
 
 // A record's ratio, its counts, and where its parts start.
 #[derive(Clone, Copy)]
@@ -41,18 +40,12 @@ pub struct Place {
     pub size: usize,
 }
 
-// What cutting a record gives.
+// The sections of a record, each without its count.
 #[derive(Clone, Copy)]
-pub enum Division {
-    Whole(Parts),
-    Bad(Refusal),
-}
-
-// What inspecting a record gives.
-#[derive(Clone, Copy)]
-pub enum Inspected {
-    Fine(Parts),
-    Refused(Refusal),
+pub enum Section {
+    Holes,
+    Nodes,
+    Pairs,
 }
 
 // Whether the ratio a/b is in range.
@@ -63,55 +56,55 @@ fn ratio_ok(a: usize, b: usize) -> bool
 }
 
 // Cuts a record into its parts: the ratio, the counts and the length are tested, in document 01's order.
-pub fn cut(bytes: &[u8]) -> Division
+pub fn cut(bytes: &[u8]) -> Result<Parts, Refusal>
     ensures { CutSays bytes.now result }
 {
     if bytes.len() < 4 {
-        return Division::Bad(Refusal::Short(4));
+        return Err(Refusal::Short(4));
     }
-    let a = words::wide(bytes[0]);
-    let b = words::wide(bytes[1]);
+    let a = bytes[0] as usize;
+    let b = bytes[1] as usize;
     if !ratio_ok(a, b) {
-        return Division::Bad(Refusal::Ratio);
+        return Err(Refusal::Ratio);
     }
-    let n = words::get16(bytes, 2);
+    let n = words::get::<2>(bytes, 2);
     if n == 0 {
-        return Division::Bad(Refusal::None);
+        return Err(Refusal::None);
     }
     if 1024 < n {
-        return Division::Bad(Refusal::Many(n as u64));
+        return Err(Refusal::Many(n as u64));
     }
     cut_parts(bytes, a, b, n)
 }
 
 // The same from the node count on.
-fn cut_parts(bytes: &[u8], a: usize, b: usize, n: usize) -> Division
+fn cut_parts(bytes: &[u8], a: usize, b: usize, n: usize) -> Result<Parts, Refusal>
     requires { Begun bytes.now a b n }
     ensures { CutSays bytes.now result }
 {
     let len = bytes.len();
     if len < 6 + 4 * n {
-        return Division::Bad(Refusal::Short((6 + 4 * n) as u64));
+        return Err(Refusal::Short((6 + 4 * n) as u64));
     }
-    let nodes = words::get16(bytes, 4 + 4 * n);
+    let nodes = words::get::<2>(bytes, 4 + 4 * n);
     if nodes != 2 * n - 1 {
-        return Division::Bad(Refusal::Count(nodes as u64));
+        return Err(Refusal::Count(nodes as u64));
     }
     if len < 6 + 12 * n {
-        return Division::Bad(Refusal::Short((6 + 12 * n) as u64));
+        return Err(Refusal::Short((6 + 12 * n) as u64));
     }
-    let m = words::get32(bytes, 2 + 12 * n);
+    let m = words::get::<4>(bytes, 2 + 12 * n);
     if n * (n - 1) / 2 < m {
-        return Division::Bad(Refusal::Count(m as u64));
+        return Err(Refusal::Count(m as u64));
     }
     let end = 6 + 12 * n + 4 * m;
     if len < end {
-        return Division::Bad(Refusal::Short(end as u64));
+        return Err(Refusal::Short(end as u64));
     }
     if end < len {
-        return Division::Bad(Refusal::Over(len as u64));
+        return Err(Refusal::Over(len as u64));
     }
-    Division::Whole(Parts {
+    Ok(Parts {
         a,
         b,
         n,
@@ -123,94 +116,101 @@ fn cut_parts(bytes: &[u8], a: usize, b: usize, n: usize) -> Division
 }
 
 // The part of a record at a place.
-fn part_at(bytes: &[u8], at: usize, size: usize) -> &[u8]
-    requires { at + size ≤ length bytes.now }
-    ensures { PartAt bytes.entry result (record { start = at; size = size }) }
+fn part_at(bytes: &[u8], place: Place) -> &[u8]
+    requires { place.start + place.size ≤ length bytes.now }
+    ensures { PartAt bytes.entry result (record { start = place.start; size = place.size }) }
 {
-    &bytes[at..at + size]
+    &bytes[place.start..place.start + place.size]
 }
 
-// The part that holds the holes, the nodes, the pairs.
-fn hole_part(bytes: &[u8], p: Parts) -> &[u8]
-    requires { PartsOf bytes.now p }
-    ensures { result.now ≡ holes_slice bytes.now }
-{
-    part_at(bytes, p.holes, 4 * p.n)
-}
+impl Parts {
+    // Where a section stands.
+    fn place(self, section: Section) -> Place
+        requires { CountsFit self }
+        ensures { result ≡ named_place self section }
+    {
+        match section {
+            Section::Holes => Place {
+                start: self.holes,
+                size: 4 * self.n,
+            },
+            Section::Nodes => Place {
+                start: self.nodes,
+                size: 4 * (2 * self.n - 1),
+            },
+            Section::Pairs => Place {
+                start: self.pairs,
+                size: 4 * self.m,
+            },
+        }
+    }
 
-fn node_part(bytes: &[u8], p: Parts) -> &[u8]
-    requires { PartsOf bytes.now p }
-    ensures { result.now ≡ nodes_slice bytes.now }
-{
-    part_at(bytes, p.nodes, 4 * (2 * p.n - 1))
-}
-
-pub fn pair_part(bytes: &[u8], p: Parts) -> &[u8]
-    requires { PartsOf bytes.now p }
-    ensures { result.now ≡ pairs_slice bytes.now }
-{
-    part_at(bytes, p.pairs, 4 * p.m)
+    // The part of a record that holds a section.
+    pub fn slice(self, bytes: &[u8], section: Section) -> &[u8]
+        requires { PartsOf bytes.now self }
+        ensures { result.now ≡ slice_of section bytes.now }
+    {
+        part_at(bytes, self.place(section))
+    }
 }
 
 // Tests a record, in document 01's order, and leaves what it found on the slate: the tree, and for each node how many holes are under it, the
 // lowest of them, their box and their ranks. The questions build on this.
-pub fn inspect(bytes: &[u8], work: &mut [u8]) -> Inspected
+pub fn inspect(bytes: &[u8], work: &mut [u8]) -> Result<Parts, Refusal>
     ensures { InspectSays bytes.now work.old work.new result }
 {
     if work.len() < 65536 {
-        return Inspected::Refused(Refusal::Work);
+        return Err(Refusal::Work);
     }
-    match cut(bytes) {
-        Division::Bad(x) => Inspected::Refused(x),
-        Division::Whole(p) => inspect_nodes(bytes, work, p),
-    }
+    let p = cut(bytes)?;
+    inspect_nodes(bytes, work, p)
 }
 
 // From the holes on: refusals 6, 11 and 12.
-fn inspect_nodes(bytes: &[u8], work: &mut [u8], p: Parts) -> Inspected
+fn inspect_nodes(bytes: &[u8], work: &mut [u8], p: Parts) -> Result<Parts, Refusal>
     requires parts_of { PartsOf bytes.now p }
     requires grid { Grid work.old }
     ensures { InspectSays bytes.now work.old work.new result }
 {
     let n = p.n;
-    let holes = hole_part(bytes, p);
-    let nodes = node_part(bytes, p);
-    if let Found::At(i) = field::repeated(work, holes, 2, n) {
-        return Inspected::Refused(Refusal::Twice(i as u64));
+    let holes = p.slice(bytes, Section::Holes);
+    let nodes = p.slice(bytes, Section::Nodes);
+    if let Some(i) = field::repeated(work, holes, 2, n) {
+        return Err(Refusal::Twice(i as u64));
     }
-    if let Found::At(k) = tree::load(work, nodes, n) {
-        return Inspected::Refused(Refusal::Tree(k as u64));
+    if let Some(k) = tree::load(work, nodes, n) {
+        return Err(Refusal::Tree(k as u64));
     }
-    if let Found::At(k) = tree::loose(work, n) {
-        return Inspected::Refused(Refusal::Loose(k as u64));
+    if let Some(k) = tree::loose(work, n) {
+        return Err(Refusal::Loose(k as u64));
     }
     tree::sum_up(work, holes, 2, n);
     inspect_pairs(bytes, work, p)
 }
 
 // From the pairs on: refusals 13 and 14. The covering takes the columns of the boxes for its own, so that a taken record is summed up once more.
-fn inspect_pairs(bytes: &[u8], work: &mut [u8], p: Parts) -> Inspected
+fn inspect_pairs(bytes: &[u8], work: &mut [u8], p: Parts) -> Result<Parts, Refusal>
     requires parts_of { PartsOf bytes.now p }
     requires measured { Measured bytes.now work.old }
     ensures { InspectSays bytes.now work.old work.new result }
 {
     let n = p.n;
     let m = p.m;
-    let list = pair_part(bytes, p);
-    if let Found::At(k) = pairs::check_pairs(work, list, 2, p.a, p.b, n, m) {
-        return Inspected::Refused(Refusal::Pair(k as u64));
+    let list = p.slice(bytes, Section::Pairs);
+    if let Some(k) = pairs::check_pairs(work, list, 2, p.a, p.b, n, m) {
+        return Err(Refusal::Pair(k as u64));
     }
     tree::rank(work, n);
-    if let Two::Both(i, j) = cover::uncovered(work, list, n, m) {
-        return Inspected::Refused(Refusal::Cover((1024 * i + j) as u64));
+    if let Some((i, j)) = cover::uncovered(work, list, n, m) {
+        return Err(Refusal::Cover((1024 * i + j) as u64));
     }
-    let holes = hole_part(bytes, p);
+    let holes = p.slice(bytes, Section::Holes);
     tree::sum_up(work, holes, 2, n);
-    Inspected::Fine(p)
+    Ok(p)
 }
 
 // Inspects a record and wipes the slate: a taken record's parts, or why it is refused.
-fn taken_parts(bytes: &[u8], work: &mut [u8]) -> Inspected
+fn taken_parts(bytes: &[u8], work: &mut [u8]) -> Result<Parts, Refusal>
     ensures { TakeSays bytes.now work.old work.new result }
 {
     let found = inspect(bytes, work);
@@ -219,72 +219,28 @@ fn taken_parts(bytes: &[u8], work: &mut [u8]) -> Inspected
 }
 
 // Takes a record exactly when it meets document 01's rules, and gives its holes and its pairs.
-pub fn check(bytes: &[u8], work: &mut [u8]) -> Checked
+pub fn check(bytes: &[u8], work: &mut [u8]) -> Result<(u64, u64), Refusal>
     ensures { Checks bytes.now result work.old work.new }
 {
-    match taken_parts(bytes, work) {
-        Inspected::Refused(x) => Checked::Refused(x),
-        Inspected::Fine(p) => Checked::Taken(p.n as u64, p.m as u64),
-    }
+    let p = taken_parts(bytes, work)?;
+    Ok((p.n as u64, p.m as u64))
 }
 
-// The place of the holes, of the nodes, of the pairs of a record, without their count; the empty place at the start of one that is refused.
-pub fn holes_place(bytes: &[u8], work: &mut [u8]) -> Place
-    ensures { Located holes_part bytes.now work.old work.new result }
+// The place of a section of a record; the empty place at the start of one that is refused.
+pub fn place_of(bytes: &[u8], work: &mut [u8], section: Section) -> Place
+    ensures { Located (part_of section) bytes.now work.old work.new result }
 {
     match taken_parts(bytes, work) {
-        Inspected::Refused(_) => Place { start: 0, size: 0 },
-        Inspected::Fine(p) => Place {
-            start: p.holes,
-            size: 4 * p.n,
-        },
-    }
-}
-
-pub fn nodes_place(bytes: &[u8], work: &mut [u8]) -> Place
-    ensures { Located nodes_part bytes.now work.old work.new result }
-{
-    match taken_parts(bytes, work) {
-        Inspected::Refused(_) => Place { start: 0, size: 0 },
-        Inspected::Fine(p) => Place {
-            start: p.nodes,
-            size: 4 * (2 * p.n - 1),
-        },
-    }
-}
-
-pub fn pairs_place(bytes: &[u8], work: &mut [u8]) -> Place
-    ensures { Located pairs_part bytes.now work.old work.new result }
-{
-    match taken_parts(bytes, work) {
-        Inspected::Refused(_) => Place { start: 0, size: 0 },
-        Inspected::Fine(p) => Place {
-            start: p.pairs,
-            size: 4 * p.m,
-        },
+        Ok(p) => p.place(section),
+        Err(_) => Place { start: 0, size: 0 },
     }
 }
 
 // The section itself: the part of the caller's record at that place.
-pub fn holes<'a>(bytes: &'a [u8], work: &mut [u8]) -> &'a [u8]
-    ensures { HandsBack holes_part bytes.entry result work.old work.new }
+pub fn section_of<'a>(bytes: &'a [u8], work: &mut [u8], section: Section) -> &'a [u8]
+    ensures { HandsBack (part_of section) bytes.entry result work.old work.new }
 {
-    let p = holes_place(bytes, work);
-    part_at(bytes, p.start, p.size)
-}
-
-pub fn nodes<'a>(bytes: &'a [u8], work: &mut [u8]) -> &'a [u8]
-    ensures { HandsBack nodes_part bytes.entry result work.old work.new }
-{
-    let p = nodes_place(bytes, work);
-    part_at(bytes, p.start, p.size)
-}
-
-pub fn pairs<'a>(bytes: &'a [u8], work: &mut [u8]) -> &'a [u8]
-    ensures { HandsBack pairs_part bytes.entry result work.old work.new }
-{
-    let p = pairs_place(bytes, work);
-    part_at(bytes, p.start, p.size)
+    part_at(bytes, place_of(bytes, work, section))
 }
 
 // Writes the ratio, the hole count and the holes.
@@ -292,8 +248,8 @@ fn put_head(out: &mut [u8], holes: &[u8], a: usize, b: usize, n: usize)
     requires { HeadFits out.old holes.now a b n }
     ensures { Written out.old out.new 0 (head holes.now a b n) }
 {
-    words::put16(out, 0, 256 * a + b);
-    words::put16(out, 2, n);
+    words::put::<2>(out, 0, 256 * a + b);
+    words::put::<2>(out, 2, n);
     words::copy(out, 4, holes);
 }
 
@@ -303,10 +259,11 @@ fn put_entry(out: &mut [u8], work: &[u8], at: usize, k: usize)
     requires grid { Grid work.now × (k < 2048) }
     ensures { Written out.old out.new at (two_numbers (cell work.now FIRST k, cell work.now SECOND k)) }
 {
-    let one = slate::cell(work, slate::FIRST, k);
-    let two = slate::cell(work, slate::SECOND, k);
-    words::put16(out, at, one);
-    words::put16(out, at + 2, two);
+    let two = (
+        slate::cell(work, slate::FIRST, k),
+        slate::cell(work, slate::SECOND, k),
+    );
+    paper::put_two_numbers(out, at, two);
 }
 
 // Writes the nodes, and the node count before them.
@@ -323,7 +280,7 @@ fn put_nodes(out: &mut [u8], work: &[u8], n: usize)
     requires { NodesFit out.old work.now n }
     ensures { Written out.old out.new (4 + 4 * n) (node_bytes work.now n) }
 {
-    words::put16(out, 4 + 4 * n, 2 * n - 1);
+    words::put::<2>(out, 4 + 4 * n, 2 * n - 1);
     put_entries(out, work, n);
 }
 
@@ -332,7 +289,7 @@ fn put_count(out: &mut [u8], n: usize, end: usize)
     requires { (n ≤ 1024) × (6 + 12 * n ≤ end) × (6 + 12 * n ≤ length out.old) }
     ensures { Written out.old out.new (2 + 12 * n) (bytes 4 ((end - (6 + 12 * n)) / 4)) }
 {
-    words::put32(out, 2 + 12 * n, (end - (6 + 12 * n)) / 4);
+    words::put::<4>(out, 2 + 12 * n, (end - (6 + 12 * n)) / 4);
 }
 
 // Writes all that stands before the pairs of a record that is `end` bytes long: the ratio, the holes, the nodes, and the pair count.
@@ -348,7 +305,14 @@ fn put_front(holes: &[u8], a: usize, b: usize, n: usize, end: usize, work: &[u8]
 
 // Writes the record of the field whose tree is on the slate. The pairs are listed first, as many as fit: how far they go is the record's length,
 // and where the output is shorter it is zeroed again.
-fn write_record(holes: &[u8], a: usize, b: usize, n: usize, work: &[u8], out: &mut [u8]) -> Wrote
+fn write_record(
+    holes: &[u8],
+    a: usize,
+    b: usize,
+    n: usize,
+    work: &[u8],
+    out: &mut [u8],
+) -> Result<u64, Refusal>
     requires buildable { Buildable holes.now a b n }
     requires drawn { Drawn holes.now a b n work.now }
     requires blank { Blank out.old }
@@ -357,10 +321,10 @@ fn write_record(holes: &[u8], a: usize, b: usize, n: usize, work: &[u8], out: &m
     let end = pairs::list_pairs(work, out, 2, a, b, n, 6 + 12 * n);
     if out.len() < end {
         words::zero(out);
-        return Wrote::Refused(Refusal::Room(end as u64));
+        return Err(Refusal::Room(end as u64));
     }
     put_front(holes, a, b, n, end, work, out);
-    Wrote::Bytes(end as u64)
+    Ok(end as u64)
 }
 
 // Sums the tree on the slate up, and puts what comparisons ask of each node beside it.
@@ -375,7 +339,14 @@ fn size_up(work: &mut [u8], holes: &[u8], a: usize, b: usize, n: usize)
 }
 
 // Cuts the field into its tree, sums it up on the slate, and writes its record.
-fn fill(holes: &[u8], a: usize, b: usize, n: usize, work: &mut [u8], out: &mut [u8]) -> Wrote
+fn fill(
+    holes: &[u8],
+    a: usize,
+    b: usize,
+    n: usize,
+    work: &mut [u8],
+    out: &mut [u8],
+) -> Result<u64, Refusal>
     requires buildable { Buildable holes.now a b n }
     requires grid { Grid work.old }
     requires blank { Blank out.old }
@@ -387,35 +358,41 @@ fn fill(holes: &[u8], a: usize, b: usize, n: usize, work: &mut [u8], out: &mut [
 }
 
 // Builds into an output that is all zero: the refusals in document 01's order, then the record.
-fn build_clean(holes: &[u8], a: u64, b: u64, work: &mut [u8], out: &mut [u8]) -> Wrote
+fn build_clean(
+    holes: &[u8],
+    a: u64,
+    b: u64,
+    work: &mut [u8],
+    out: &mut [u8],
+) -> Result<u64, Refusal>
     requires { Blank out.old }
     ensures { Made (build holes.now a b) (length work.old) out.old out.new result }
 {
     if work.len() < 65536 {
-        return Wrote::Refused(Refusal::Work);
+        return Err(Refusal::Work);
     }
     let len = holes.len();
     if len % 4 != 0 {
-        return Wrote::Refused(Refusal::Odd(len as u64));
+        return Err(Refusal::Odd(len as u64));
     }
     let n = len / 4;
     if n == 0 {
-        return Wrote::Refused(Refusal::None);
+        return Err(Refusal::None);
     }
     if 1024 < n {
-        return Wrote::Refused(Refusal::Many(n as u64));
+        return Err(Refusal::Many(n as u64));
     }
     if !ratio_ok(a as usize, b as usize) {
-        return Wrote::Refused(Refusal::Ratio);
+        return Err(Refusal::Ratio);
     }
-    if let Found::At(i) = field::repeated(work, holes, 2, n) {
-        return Wrote::Refused(Refusal::Twice(i as u64));
+    if let Some(i) = field::repeated(work, holes, 2, n) {
+        return Err(Refusal::Twice(i as u64));
     }
     fill(holes, a as usize, b as usize, n, work, out)
 }
 
 // Builds the record of a field at the ratio a/b: the holes, their tree and its pairs, followed by zeros; or only zeros where it is refused.
-pub fn build(holes: &[u8], a: u64, b: u64, work: &mut [u8], out: &mut [u8]) -> Wrote
+pub fn build(holes: &[u8], a: u64, b: u64, work: &mut [u8], out: &mut [u8]) -> Result<u64, Refusal>
     ensures { Builds holes.now a b result work.old work.new out.old out.new }
 {
     words::zero(out);

@@ -3,7 +3,6 @@ use mathlib.Core.Path.{refl}
 use native.Mathlib.Omega.{arith}
 use borrow.Author.Rules.{rules}
 use Rattle.record.proofs.BuildAnswers.{refuse_work, refuse-odd, refuse-none, refuse-many, refuse-ratio, refuse-twice, buildable}
-use Rattle.record.proofs.Outputs.{made_there}
 use Rattle.record.proofs.build_clean.Goals as goal
 
 pub returns-then-work-lt65536 : goal.returns-then-work-lt65536
@@ -21,17 +20,10 @@ returns-then-n-gt1024 c = search (refuse-many, rules)
 pub returns-then-not-ratio_ok : goal.returns-then-not-ratio_ok
 returns-then-not-ratio_ok c = search (refuse-ratio, rules)
 
-pub returns-in-At : goal.returns-in-At
-returns-in-At c = search (refuse-twice, rules)
+pub returns-in-Some : goal.returns-in-Some
+returns-in-Some c = search (refuse-twice, rules)
 
-pub fill-requires : goal.fill-requires
-fill-requires c =
-    record {
-      buildable = buildable c.args.holes.now (λ k. omega (arith, (c.type_inv.holes k).fits)) _ _ c.ratio_ok.ensures (rw c.if-not-ratio_ok.false refl) c.repeated.ensures
-          (search rules) (search rules) (search rules) (search rules);
-      grid = search rules;
-      blank = search rules;
-    }
-
-pub returns : goal.returns
-returns c = search (made_there, rules)
+pub fill-requires-clause-buildable : goal.fill-requires-clause-buildable
+fill-requires-clause-buildable c =
+    buildable c.args.holes.now (λ k. omega (arith, (c.type_inv.holes k).fits)) _ _ c.ratio_ok.ensures (rw c.if-not-ratio_ok.false refl) c.repeated.ensures
+    (search rules) (search rules) (search rules) (search rules)

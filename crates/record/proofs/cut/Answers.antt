@@ -1,4 +1,4 @@
--- Each return says what `Exits` says of it; what is left after the first four bytes is what `cut_parts` asks for. Assumes nothing.
+-- Each refusal is what `Exits` says of it; what is left after the first four bytes is what `cut_parts` asks for. Assumes nothing.
 use borrow.Author.Rules.{rules}
 use Rattle.record.proofs.Exits.{short-head, wrong-ratio, no_holes, many-holes, begins}
 use Rattle.record.proofs.cut.Goals as goal
@@ -8,20 +8,8 @@ ruleset all = (short-head, wrong-ratio, no_holes, many-holes, begins, rules)
 pub returns-then-bytes-lt4 : goal.returns-then-bytes-lt4
 returns-then-bytes-lt4 c = search all
 
-pub wide-a-requires : goal.wide-a-requires
-wide-a-requires c = search all
-
-pub wide-b-requires : goal.wide-b-requires
-wide-b-requires c = search all
-
-pub ratio_ok-requires : goal.ratio_ok-requires
-ratio_ok-requires c = search all
-
 pub returns-then-not-ratio_ok : goal.returns-then-not-ratio_ok
 returns-then-not-ratio_ok c = search all
-
-pub get16-n-requires : goal.get16-n-requires
-get16-n-requires c = search all
 
 pub returns-then-n-eq0 : goal.returns-then-n-eq0
 returns-then-n-eq0 c = search all
@@ -31,6 +19,3 @@ returns-then-n-gt1024 c = search all
 
 pub cut_parts-requires : goal.cut_parts-requires
 cut_parts-requires c = search all
-
-pub returns : goal.returns
-returns c = search all

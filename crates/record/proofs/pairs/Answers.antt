@@ -1,6 +1,0 @@
--- The part at the place of the section. Assumes nothing.
-use Rattle.record.proofs.TakeCases.{handed}
-use Rattle.record.proofs.pairs.Goals as goal
-
-pub returns : goal.returns
-returns c = search handed
