@@ -6,7 +6,6 @@ use native.Mathlib.Omega.{arith}
 use lib.Dec.{leb, eqb}
 use borrow.Author.Count.{below_more}
 use borrow.Author.Tests.{leb-true, leb-false, eq-eqb, ne_eqb, eqb-true, eqb-false}
-use Rattle.words.specs.Words.{Read}
 use Rattle.slate.specs.Columns.{HOLES}
 use Rattle.slate.specs.Slate.{cell, Held}
 use Rattle.paper.specs.Field.{distance²}
@@ -15,7 +14,7 @@ use Rattle.paper.proofs.ListLaws.{cases}
 use Rattle.field.specs.Boxes.{box_on, low_end, corner}
 use Rattle.field.specs.Sides.{gap_on, Squared}
 use Rattle.field.proofs.Axis.{one_axis}
-use Rattle.questions.specs.Nearest.{no_key, nodes_key, KeyOf, pair_key, PairLesser, PairThere, PairsThere, LeastKey}
+use Rattle.questions.specs.Nearest.{no_key, nodes_key, KeyOf, pair_key, PairLesser, LeastKey}
 
 module _ (w : List ℕ) (p q : ℕ) where
   pub key_left : (cell w HOLES p ≡ 1 → ⊥) → pair_key w (p, q) ≡ no_key
@@ -71,21 +70,11 @@ module _ {w : List ℕ} {p q b : ℕ} (most : b ≤ no_key) where
           }
 
 -- what `lesser_key` returns: one axis alone says no more than all
-module _ (k : ℕ) {w ps : List ℕ} {p q b : ℕ} (left : Read 2 ps (4 * k) p) (right : Read 2 ps (4 * k + 2) q) where
-  pub axis-far : {r s : ℕ} → b ≤ no_key → r ≡ gap_on low_end w p q 0 → Squared r s → b ≤ 1_048_576 * s → PairLesser w (two_numbers_at ps (4 * k)) b b
-  axis-far {r} {s} m e h l =
-      rw (← left.is, ← right.is) (no_less m (one_axis low_end w p q 0 2 r s e h (omega arith)) (omega (arith, h.small)) l)
-
-  pub near : {t : ℕ} → PairLesser w (p, q) b t → PairLesser w (two_numbers_at ps (4 * k)) b t
-  near o = rw (← left.is, ← right.is) o
+pub axis-far : {w : List ℕ} {z y : ℕ × ℕ} {b r s : ℕ} → z ≡ y → b ≤ no_key → r ≡ gap_on low_end w z.0 z.1 0 → Squared r s → b ≤ 1_048_576 * s
+    → PairLesser w y b b
+axis-far {w} {z} {r} {s} x m e h l = rw x at (no_less m (one_axis low_end w z.0 z.1 0 2 r s e h (omega arith)) (omega (arith, h.small)) l)
 
 -- the walk
-pub pair_there : {w ps : List ℕ} {m k : ℕ} → PairsThere w ps m → k < m → PairThere w ps k
-pair_there {k} t l = record { grid = t.grid; here = omega (arith, t.all); left = t.left k l; right = t.right k l }
-
-pub no_pair : {w ps : List ℕ} → LeastKey w ps 0 no_key
-no_pair = record { most = omega arith; least = λ k l. absurd (omega arith); one = λ l. absurd (omega arith); small = λ k l. absurd (omega arith) }
-
 pub pair_more : {w ps : List ℕ} {k r t : ℕ} → LeastKey w ps k r → PairLesser w (two_numbers_at ps (4 * k)) r t → LeastKey w ps (k + 1) t
 pair_more {w} {ps} {k} {r} {t} g h =
     let s = pair_key w (two_numbers_at ps (4 * k)) in
@@ -105,6 +94,3 @@ pair_more {w} {ps} {k} {r} {t} g h =
           record { which = k; listed = omega arith; is = omega arith });
       small = below_more _ k (λ x l a b. omega (arith, g.small x l a b)) (λ a b. h.small a b);
     }
-
-pub all_pairs : (w ps : List ℕ) {m k r : ℕ} → LeastKey w ps k r → k ≤ m → m ≤ k → LeastKey w ps m r
-all_pairs w ps {m} {k} g l h = let e : k ≡ m = omega arith in rw e at g

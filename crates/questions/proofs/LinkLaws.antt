@@ -1,29 +1,19 @@
 -- The links that stand in the output after k pairs: a turn writes one more behind them. Assumes nothing.
 use mathlib.Core.Path.{◌≡◌, ap, ◌∙◌}
 use mathlib.Core.List.{List, ◌++◌}
-use Prim.Native.Nat.{ℕ, suc, ◌+◌, ◌*◌, ◌<◌, ◌≤◌}
+use Prim.Native.Nat.{ℕ, suc, ◌+◌, ◌*◌}
 use native.Mathlib.Numerals.{add-one}
 use native.Mathlib.Omega.{arith}
 use lib.ListN.{length}
-use Rattle.words.specs.Words.{bytes, Read, Written}
-use Rattle.words.proofs.Laws.{length-bytes, written_none, written_more}
+use Rattle.words.specs.Words.{Written}
+use Rattle.words.proofs.Laws.{written_none, written_more}
 use Rattle.paper.specs.Field.{list_at}
 use Rattle.paper.specs.Record.{two_numbers, two_numbers_at}
 use Rattle.theory.proofs.EachLaws.{each, length-joined}
 use Rattle.theory.proofs.Lengths.{length_two}
 use Rattle.theory.proofs.Reading.{length_list}
 use Rattle.record.proofs.PutLaws.{joined_more}
-use Rattle.questions.specs.declared.Link.{Link}
-use Rattle.questions.specs.Nearest.{Linked}
-use Rattle.questions.specs.Linking.{link_on, links_on, LinkFits, LinksFit}
-use Rattle.questions.proofs.Keys.{pair_there}
-
--- one link: its two numbers, one after the other
-pub link_put : (k : ℕ) {w ps a b c : List ℕ} {p q : ℕ} {r : Link} → Read 2 ps (4 * k) p → Read 2 ps (4 * k + 2) q → Linked w p q r
-    → Written a b (4 * k) (bytes 2 r.first) → Written b c (4 * k + 2) (bytes 2 r.second)
-    → Written a c (4 * k) (two_numbers (link_on w (two_numbers_at ps (4 * k))))
-link_put k {r} p q l s t =
-    rw (← p.is, ← q.is, ← l.first_is, ← l.second_is) (written_more s t (omega (arith, length-bytes 2 r.first)))
+use Rattle.questions.specs.Linking.{link_on, links_on}
 
 module _ (w ps : List ℕ) where
   pub length-links : (m : ℕ) → length (links_on w ps m) ≡ 4 * m
@@ -47,9 +37,4 @@ module _ (w ps : List ℕ) where
       → Written a c 0 (links_on w ps (k + 1))
   link_more k s t = rw (add-one, links_more k) (written_more s t (omega (arith, length-links k)))
 
-  pub all_links : {a b : List ℕ} {k m : ℕ} → Written a b 0 (links_on w ps k) → k ≤ m → m ≤ k → Written a b 0 (links_on w ps m)
-  all_links {k} {m} s l h = let e : k ≡ m = omega arith in rw e at s
-
 -- room for one more
-pub link_fits : {a b w ps : List ℕ} {m k : ℕ} → LinksFit a w ps m → Written a b 0 (links_on w ps k) → k < m → LinkFits b w ps k
-link_fits f s l = record { there = pair_there f.there l; room = omega (arith, f.room, s.len) }

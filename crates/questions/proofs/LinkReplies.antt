@@ -8,6 +8,7 @@ use native.Mathlib.Omega.{arith}
 use lib.Dec.{leb}
 use lib.ListN.{length}
 use borrow.Author.Tests.{le-leb, lt-leb, lt-ltb, le-ltb}
+use Rattle.std.specs.Prelude.{Ok, Err}
 use Rattle.words.specs.Words.{Written}
 use Rattle.paper.specs.Lists.{joined}
 use Rattle.paper.specs.Field.{list_at}
@@ -17,20 +18,16 @@ use Rattle.paper.specs.Refusals.{given}
 use Rattle.paper.specs.Questions.{link, links}
 use Rattle.paper.specs.declared.Refusal.{Refusal}
 use Rattle.paper.specs.declared.Refusal.TheVariants as R
-use Rattle.paper.specs.declared.Wrote.{Wrote}
-use Rattle.paper.specs.declared.Wrote.TheVariants as W
 use Rattle.paper.proofs.Tables.{stop, pass, passed}
 use Rattle.theory.specs.Trees.{Each}
 use Rattle.theory.proofs.RoundTrip.{view_pairs}
 use Rattle.record.specs.Cutting.{pairs_slice}
-use Rattle.record.specs.Inspecting.{InspectSays}
+use Rattle.record.specs.Inspecting.{Refusing}
 use Rattle.record.specs.Outputs.{Blank, Made}
 use Rattle.record.specs.declared.Parts.{Parts}
-use Rattle.record.specs.declared.Inspected.{Inspected}
-use Rattle.record.specs.declared.Inspected.TheVariants.{Fine, Refused}
 use Rattle.record.proofs.Slices.{pairs_said}
 use Rattle.record.proofs.PairsMeant.{each_listed}
-use Rattle.record.proofs.Outputs.{refused_blank, finished, made_there}
+use Rattle.record.proofs.Outputs.{refused_blank, finished}
 use Rattle.questions.specs.Asking.{Known}
 use Rattle.questions.specs.Linking.{link_on, links_on, LinksFit}
 use Rattle.questions.proofs.Meaning.{left_node, right_node, pairs_there}
@@ -65,7 +62,7 @@ module _ {bytes w : List ℕ} {p : Parts} (k : Known bytes w p) where
   links_fit e l = record { there = pairs_there k e; room = l }
 
   module _ {out : List ℕ} (blank : Blank out) where
-    pub links-low : p.a ≤ 4 * p.b → Made (links bytes) (length w) out out (W.Refused (R.Low (256 * p.a + p.b)))
+    pub links-low : p.a ≤ 4 * p.b → Made (links bytes) (length w) out out (Err (R.Low (256 * p.a + p.b)))
     unfolding links
     links-low l = refused_blank _ blank (rw (k.taken, a_is k, b_is k) (stop _ (le-leb _ _ l) (R.Low (256 * p.a + p.b)) _))
 
@@ -73,7 +70,7 @@ module _ {bytes w : List ℕ} {p : Parts} (k : Known bytes w p) where
       ratio-high : leb (view_of bytes).a (4 * (view_of bytes).b) ≡ false
       ratio-high = rw (a_is k, b_is k) (lt-leb _ _ high)
 
-      pub links-short : length out < 4 * p.m → Made (links bytes) (length w) out out (W.Refused (R.Room (4 * p.m)))
+      pub links-short : length out < 4 * p.m → Made (links bytes) (length w) out out (Err (R.Room (4 * p.m)))
       unfolding links
       links-short l =
           refused_blank _ blank
@@ -88,20 +85,13 @@ module _ {bytes w : List ℕ} {p : Parts} (k : Known bytes w p) where
           (pass _ ratio-high (R.Low (256 * (view_of bytes).a + (view_of bytes).b)) _ ∙ pass _ (le-ltb _ _ l) (R.Room (4 * p.m)) _ ∙ passed _)
 
       pub links-made : {ps out' : List ℕ} → 4 * p.m ≤ length out → ps ≡ pairs_slice bytes → Written out out' 0 (links_on w ps p.m)
-          → Made (links bytes) (length w) out out' (W.Bytes (4 * p.m))
+          → Made (links bytes) (length w) out out' (Ok (4 * p.m))
       links-made {ps} l e s =
           let size = length-links w ps p.m in
           finished blank (rw (links_are e) (asked-links l)) (sym size) (omega arith) s
 
--- from the inspection to the answer
-module _ (bytes old new : List ℕ) {f : Inspected} (s : InspectSays bytes old new f) where
-  pub links_refused : {x : Refusal} {out : List ℕ} → f ≡ Refused x → Blank out → Made (links bytes) (length old) out out (W.Refused x)
-  unfolding links
-  links_refused {x} q blank =
-      let t : InspectSays bytes old new (Refused x) = rw q at s in
-      refused_blank x blank (rw t.refused refl)
-
-  pub links_there : {p : Parts} {out out' : List ℕ} {r : Wrote} → f ≡ Fine p → Made (links bytes) (length new) out out' r → Made (links bytes) (length old) out out' r
-  links_there {p} q l =
-      let t : InspectSays bytes old new (Fine p) = rw q at s in
-      made_there t.len l
+-- a record that is refused
+pub links_refused : (bytes old new : List ℕ) {x : Refusal} {out : List ℕ} → Refusing bytes old new x → Blank out
+    → Made (links bytes) (length old) out out (Err x)
+unfolding links
+links_refused bytes old new {x} s blank = refused_blank x blank (rw s.refused refl)

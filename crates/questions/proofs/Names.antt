@@ -6,6 +6,7 @@ use Prim.Native.Nat.{ℕ, ◌+◌, ◌*◌, ◌≤◌, ◌<◌}
 use native.Mathlib.Omega.{arith}
 use lib.ListN.{length}
 use borrow.Author.Tests.{ne_eqb, lt-leb}
+use Rattle.std.specs.Prelude.{Result, Ok}
 use Rattle.paper.specs.Field.{least_work}
 use Rattle.paper.specs.Record.{holes_in, pairs_in, view_of}
 use Rattle.paper.specs.Rules.{hole_count, Record}
@@ -13,8 +14,7 @@ use Rattle.paper.specs.Refusals.{given}
 use Rattle.paper.specs.Questions.{apart, nearest, Nearest, closest}
 use Rattle.paper.specs.Answers.{FindsClosest}
 use Rattle.paper.specs.declared.Refusal.TheVariants as R
-use Rattle.paper.specs.declared.Closest.{Closest}
-use Rattle.paper.specs.declared.Closest.TheVariants.{Holes}
+use Rattle.paper.specs.declared.Refusal.{Refusal}
 use Rattle.paper.proofs.Tables.{pass, passed}
 use Rattle.theory.proofs.Statements.{nearest_is}
 use Rattle.theory.proofs.RoundTrip.{view_holes}
@@ -22,10 +22,10 @@ use Rattle.theory.proofs.Checker.{taken_is}
 use Rattle.theory.proofs.Unique.{one_closest}
 
 -- the two holes that are named
-pub record NamesClosest (bytes : List ℕ) (r : Closest) : Type 0 where
+pub record NamesClosest (bytes : List ℕ) (r : Result (ℕ × ℕ × ℕ) Refusal) : Type 0 where
   pub i : ℕ
   pub j : ℕ
-  pub answer : r ≡ Holes i j (apart (view_of bytes).holes (i, j))
+  pub answer : r ≡ Ok (i, j, apart (view_of bytes).holes (i, j))
   pub nearest : Nearest (view_of bytes).holes (i, j)
 
 module _ (bytes : List ℕ) (ok : Record bytes) (more : 2 ≤ holes_in bytes) (ratio : 2 * (view_of bytes).b < (view_of bytes).a) where
@@ -43,10 +43,10 @@ module _ (bytes : List ℕ) (ok : Record bytes) (more : 2 ≤ holes_in bytes) (r
       ∙ pass _ (lt-leb _ _ ratio) (R.Low (256 * (view_of bytes).a + (view_of bytes).b)) _
       ∙ passed _)
 
-  pub names-closest : (work work' : List ℕ) {r : Closest} → FindsClosest bytes r work work' → least_work ≤ length work → NamesClosest bytes r
+  pub names-closest : (work work' : List ℕ) {r : Result (ℕ × ℕ × ℕ) Refusal} → FindsClosest bytes r work work' → least_work ≤ length work → NamesClosest bytes r
   names-closest work work' {r} s l =
       let H = (view_of bytes).holes in
-      let t : FindsClosest bytes (Holes (nearest H).0 (nearest H).1 (apart H (nearest H))) work work' =
+      let t : FindsClosest bytes (Ok ((nearest H).0, (nearest H).1, apart H (nearest H))) work work' =
       record { answer = sym (closest_is (length work) l); wiped = s.wiped } in
       record {
         i = (nearest H).0;

@@ -4,7 +4,7 @@ use Rattle.paper.specs.Record.{holes_in, pairs_in}
 use Rattle.paper.specs.Rules.{Record}
 use Rattle.paper.specs.Refusals.{given, check}
 use Rattle.paper.specs.Questions.{closest}
-use Rattle.paper.specs.Answers.{checked, found, Checks, FindsClosest}
+use Rattle.paper.specs.Answers.{told, Checks, FindsClosest}
 use Rattle.record.specs.Cutting.{PartsOf}
 use Rattle.record.specs.Inspecting.{Filled}
 use Rattle.record.specs.declared.Parts.{Parts}
@@ -19,8 +19,8 @@ pub record Known (bytes w : List ℕ) (p : Parts) : Type 0 where
 
 -- both answers, with w the length of the work area
 pub record LooksOn (bytes : List ℕ) (w : ℕ) (r : Looked) : Type 0 where
-  pub checks : checked r.checked ≡ check bytes w
-  pub finds : found r.closest ≡ closest bytes w
+  pub checks : told r.checked ≡ check bytes w
+  pub finds : told r.closest ≡ closest bytes w
 
 -- and with the work area wiped
 pub record Looks (bytes : List ℕ) (r : Looked) (work work' : List ℕ) : Type 0 where

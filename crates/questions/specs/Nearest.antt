@@ -8,7 +8,6 @@ use Rattle.paper.specs.Record.{two_numbers_at, view_of}
 use Rattle.paper.specs.Questions.{apart, nearest}
 use Rattle.field.specs.Boxes.{box_on, corner}
 use Rattle.record.specs.declared.Parts.{Parts}
-use Rattle.questions.specs.declared.Link.{Link}
 
 abbrev pub key : ℕ → ℕ → ℕ → ℕ
 key d i j = 1_048_576 * d + 1_024 * i + j
@@ -16,13 +15,6 @@ key d i j = 1_048_576 * d + 1_024 * i + j
 -- the key of a pair that has more than one hole on a side: above every other
 abbrev pub no_key : ℕ
 no_key = 1_152_921_504_606_846_976
-
--- the lowest holes of two nodes on the slate, smaller number first
-pub record Linked (w : List ℕ) (p q : ℕ) (r : Link) : Type 0 where
-  pub first_is : r.first ≡ min (cell w LOWEST p) (cell w LOWEST q)
-  pub second_is : r.second ≡ max (cell w LOWEST p) (cell w LOWEST q)
-  pub first_small : r.first < 65_536
-  pub second_small : r.second < 65_536
 
 -- the key of two nodes on the slate that are as far apart as d says; of one hole each, whose places are the low corners of their boxes
 abbrev pub key_at : List ℕ → ℕ → ℕ → ℕ → ℕ

@@ -2,57 +2,41 @@
 // Each inspects the record once and answers from what then stands on the slate; every call ends with the slate wiped.
 #![tactic(auto)]
 
-ghost use Rattle.std.specs.Prelude.{◌≡◌, ◌*◌, ◌<◌, ◌≤◌, leb, length};
+ghost use Rattle.std.specs.Prelude.{◌≡◌, ◌+◌, ◌*◌, ◌<◌, ◌≤◌, leb, length};
 ghost use Rattle.words.specs.Words.{Written};
 ghost use Rattle.paper.specs.Field.{square};
 ghost use Rattle.paper.specs.Record.{two_numbers, two_numbers_at};
 ghost use Rattle.paper.specs.Questions.{closest, pitch, links};
-ghost use Rattle.paper.specs.Answers.{found, pitched, FindsClosest, TestsPitch, WritesLinks};
+ghost use Rattle.paper.specs.Answers.{told, FindsClosest, TestsPitch, WritesLinks};
 ghost use Rattle.field.specs.Boxes.{NodeOn};
 ghost use Rattle.record.specs.Outputs.{Blank, Made};
-ghost use Rattle.questions.specs.Nearest.{no_key, Linked, KeyOf, PairLesser, PairThere, PairsThere, LeastKey, Wanted, NearestKey};
+ghost use Rattle.questions.specs.Nearest.{no_key, KeyOf, PairLesser, PairThere, PairsThere, LeastKey, Wanted, NearestKey};
 ghost use Rattle.questions.specs.Asking.{Known, LooksOn, Looks};
 ghost use Rattle.questions.specs.Linking.{link_on, links_on, LinkFits, LinksFit};
 
-use paper::{Checked, Closest, Pitch, Refusal, Wrote};
-use record::{Inspected, Parts};
+use paper::Refusal;
+use record::{Parts, Section};
 
 // What one inspection gives: the checker's answer and the closest pair.
 #[derive(Clone, Copy)]
 pub struct Looked {
-    pub checked: Checked,
-    pub closest: Closest,
-}
-
-// The lowest-numbered hole on each side of a pair, smaller number first.
-#[derive(Clone, Copy)]
-struct Link {
-    first: usize,
-    second: usize,
+    pub checked: Result<(u64, u64), Refusal>,
+    pub closest: Result<(u64, u64, u64), Refusal>,
 }
 
 // The key of a pair that has more than one hole on a side: above every other.
 const NO_KEY: usize = 1152921504606846976;
 
-// The link of nodes p and q.
-fn link_of(work: &[u8], p: usize, q: usize) -> Link
+// The link of nodes p and q: the lowest-numbered hole under each, smaller number first.
+fn link_of(work: &[u8], p: usize, q: usize) -> (usize, usize)
     requires node_on { NodeOn work.now 2 p }
     requires q_bound { q < 2048 }
-    ensures { Linked work.now p q result }
+    ensures is { result ≡ link_on work.now (p, q) }
+    ensures small { (result.0 < 65536) × (result.1 < 65536) }
 {
     let i = slate::cell(work, slate::LOWEST, p);
     let j = slate::cell(work, slate::LOWEST, q);
-    if i < j {
-        Link {
-            first: i,
-            second: j,
-        }
-    } else {
-        Link {
-            first: j,
-            second: i,
-        }
-    }
+    (i.min(j), i.max(j))
 }
 
 // The key of nodes p and q, of one hole each, for the squared distance far: it orders two holes by their distance, then by the first of them, then by
@@ -62,8 +46,8 @@ fn key_of(work: &[u8], p: usize, q: usize, far: usize) -> usize
     requires q_bound { (q < 2048) × (far < 51539607552) }
     ensures { KeyOf work.now p q far result }
 {
-    let link = link_of(work, p, q);
-    1048576 * far + 1024 * link.first + link.second
+    let (i, j) = link_of(work, p, q);
+    1048576 * far + 1024 * i + j
 }
 
 // The lesser of a key and that of nodes p and q. Their low corners are looked at before their holes: most nodes are farther apart than the key says,
@@ -83,7 +67,7 @@ fn lesser_near(work: &[u8], p: usize, q: usize, least: usize) -> usize
     if slate::cell(work, slate::HOLES, q) != 1 {
         return least;
     }
-    field::lesser(least, key_of(work, p, q, far))
+    least.min(key_of(work, p, q, far))
 }
 
 // The lesser of a key and that of pair k. Many pairs are far apart on the first axis alone.
@@ -92,8 +76,7 @@ fn lesser_key(work: &[u8], list: &[u8], k: usize, least: usize) -> usize
     requires least_le_no_key { least ≤ no_key }
     ensures { PairLesser work.now (two_numbers_at list.now (4 * k)) least result }
 {
-    let p = words::get16(list, 4 * k);
-    let q = words::get16(list, 4 * k + 2);
+    let (p, q) = paper::two_numbers_at(list, 4 * k);
     if least <= 1048576 * field::squared(field::lows_apart(work, 0, p, q)) {
         return least;
     }
@@ -118,27 +101,35 @@ fn nearest_key(bytes: &[u8], work: &[u8], p: Parts) -> usize
     requires wanted { Wanted p }
     ensures { NearestKey bytes.now result }
 {
-    let list = record::pair_part(bytes, p);
+    let list = p.slice(bytes, Section::Pairs);
     least_key(work, list, p.m)
 }
 
+// Refusal 16: the ratio is too low.
+fn low(p: Parts) -> Refusal
+    requires { (p.a ≤ 64) × (p.b ≤ 8) }
+    ensures { result ≡ Refusal.Low (256 * p.a + p.b) }
+{
+    Refusal::Low((256 * p.a + p.b) as u64)
+}
+
 // The closest pair of a taken record: refusals 15 and 16, then the holes and the squared distance that the least key says.
-fn closest_of(bytes: &[u8], work: &[u8], p: Parts) -> Closest
+fn closest_of(bytes: &[u8], work: &[u8], p: Parts) -> Result<(u64, u64, u64), Refusal>
     requires { Known bytes.now work.now p }
-    ensures { found result ≡ closest bytes.now (length work.now) }
+    ensures { told result ≡ closest bytes.now (length work.now) }
 {
     if p.n == 1 {
-        return Closest::Refused(Refusal::Single);
+        return Err(Refusal::Single);
     }
     if p.a <= 2 * p.b {
-        return Closest::Refused(Refusal::Low((256 * p.a + p.b) as u64));
+        return Err(low(p));
     }
     let key = nearest_key(bytes, work, p);
-    Closest::Holes(
+    Ok((
         (key / 1024 % 1024) as u64,
         (key % 1024) as u64,
         (key / 1048576) as u64,
-    )
+    ))
 }
 
 // Both answers, before the slate is wiped.
@@ -146,12 +137,12 @@ fn look_on(bytes: &[u8], work: &mut [u8]) -> Looked
     ensures { LooksOn bytes.now (length work.old) result }
 {
     match record::inspect(bytes, work) {
-        Inspected::Refused(x) => Looked {
-            checked: Checked::Refused(x),
-            closest: Closest::Refused(x),
+        Err(x) => Looked {
+            checked: Err(x),
+            closest: Err(x),
         },
-        Inspected::Fine(p) => Looked {
-            checked: Checked::Taken(p.n as u64, p.m as u64),
+        Ok(p) => Looked {
+            checked: Ok((p.n as u64, p.m as u64)),
             closest: closest_of(bytes, work, p),
         },
     }
@@ -167,11 +158,10 @@ pub fn look(bytes: &[u8], work: &mut [u8]) -> Looked
 }
 
 // The closest pair: two holes and their squared distance.
-pub fn closest(bytes: &[u8], work: &mut [u8]) -> Closest
+pub fn closest(bytes: &[u8], work: &mut [u8]) -> Result<(u64, u64, u64), Refusal>
     ensures { FindsClosest bytes.now result work.old work.new }
 {
-    let seen = look(bytes, work);
-    seen.closest
+    look(bytes, work).closest
 }
 
 // Whether a squared distance is at least p². No squared distance is as much as 1,048,576².
@@ -186,35 +176,30 @@ fn keeps_pitch(p: u64, far: u64) -> bool
 }
 
 // The pitch test of a taken record: one hole keeps every pitch, and more keep it where the closest two do.
-fn pitch_of(bytes: &[u8], work: &[u8], p: u64, parts: Parts) -> Pitch
+fn pitch_of(bytes: &[u8], work: &[u8], p: u64, parts: Parts) -> Result<bool, Refusal>
     requires { Known bytes.now work.now parts }
-    ensures { pitched result ≡ pitch bytes.now p (length work.now) }
+    ensures { told result ≡ pitch bytes.now p (length work.now) }
 {
     if parts.n == 1 {
-        return Pitch::Yes;
+        return Ok(true);
     }
     if parts.a <= 2 * parts.b {
-        return Pitch::Refused(Refusal::Low((256 * parts.a + parts.b) as u64));
+        return Err(low(parts));
     }
     let key = nearest_key(bytes, work, parts);
-    if keeps_pitch(p, (key / 1048576) as u64) {
-        return Pitch::Yes;
-    }
-    Pitch::No
+    Ok(keeps_pitch(p, (key / 1048576) as u64))
 }
 
 // The pitch test, before the slate is wiped.
-fn pitch_on(bytes: &[u8], p: u64, work: &mut [u8]) -> Pitch
-    ensures { pitched result ≡ pitch bytes.now p (length work.old) }
+fn pitch_on(bytes: &[u8], p: u64, work: &mut [u8]) -> Result<bool, Refusal>
+    ensures { told result ≡ pitch bytes.now p (length work.old) }
 {
-    match record::inspect(bytes, work) {
-        Inspected::Refused(x) => Pitch::Refused(x),
-        Inspected::Fine(parts) => pitch_of(bytes, work, p, parts),
-    }
+    let parts = record::inspect(bytes, work)?;
+    pitch_of(bytes, work, p, parts)
 }
 
 // Whether every two holes are at least p apart.
-pub fn pitch(bytes: &[u8], p: u64, work: &mut [u8]) -> Pitch
+pub fn pitch(bytes: &[u8], p: u64, work: &mut [u8]) -> Result<bool, Refusal>
     ensures { TestsPitch bytes.now p result work.old work.new }
 {
     let told = pitch_on(bytes, p, work);
@@ -227,11 +212,9 @@ fn put_link(out: &mut [u8], work: &[u8], list: &[u8], k: usize)
     requires { LinkFits out.old work.now list.now k }
     ensures { Written out.old out.new (4 * k) (two_numbers (link_on work.now (two_numbers_at list.now (4 * k)))) }
 {
-    let p = words::get16(list, 4 * k);
-    let q = words::get16(list, 4 * k + 2);
+    let (p, q) = paper::two_numbers_at(list, 4 * k);
     let link = link_of(work, p, q);
-    words::put16(out, 4 * k, link.first);
-    words::put16(out, 4 * k + 2, link.second);
+    paper::put_two_numbers(out, 4 * k, link);
 }
 
 // Writes the links of m pairs, in order.
@@ -245,36 +228,34 @@ fn put_links(out: &mut [u8], work: &[u8], list: &[u8], m: usize)
 }
 
 // The links of a taken record, into an output that is all zero: refusals 16 and 7, then the links.
-fn links_of(bytes: &[u8], work: &[u8], p: Parts, out: &mut [u8]) -> Wrote
+fn links_of(bytes: &[u8], work: &[u8], p: Parts, out: &mut [u8]) -> Result<u64, Refusal>
     requires known { Known bytes.now work.now p }
     requires blank { Blank out.old }
     ensures { Made (links bytes.now) (length work.now) out.old out.new result }
 {
     if p.a <= 4 * p.b {
-        return Wrote::Refused(Refusal::Low((256 * p.a + p.b) as u64));
+        return Err(low(p));
     }
     let m = p.m;
     if out.len() < 4 * m {
-        return Wrote::Refused(Refusal::Room((4 * m) as u64));
+        return Err(Refusal::Room((4 * m) as u64));
     }
-    let list = record::pair_part(bytes, p);
+    let list = p.slice(bytes, Section::Pairs);
     put_links(out, work, list, m);
-    Wrote::Bytes((4 * m) as u64)
+    Ok((4 * m) as u64)
 }
 
 // The links, before the slate is wiped.
-fn links_on(bytes: &[u8], work: &mut [u8], out: &mut [u8]) -> Wrote
+fn links_on(bytes: &[u8], work: &mut [u8], out: &mut [u8]) -> Result<u64, Refusal>
     requires { Blank out.old }
     ensures { Made (links bytes.now) (length work.old) out.old out.new result }
 {
-    match record::inspect(bytes, work) {
-        Inspected::Refused(x) => Wrote::Refused(x),
-        Inspected::Fine(p) => links_of(bytes, work, p, out),
-    }
+    let p = record::inspect(bytes, work)?;
+    links_of(bytes, work, p, out)
 }
 
 // The links: for each pair in order the lowest-numbered hole on each side, smaller number first, followed by zeros; or only zeros where refused.
-pub fn links(bytes: &[u8], work: &mut [u8], out: &mut [u8]) -> Wrote
+pub fn links(bytes: &[u8], work: &mut [u8], out: &mut [u8]) -> Result<u64, Refusal>
     ensures { WritesLinks bytes.now result work.old work.new out.old out.new }
 {
     words::zero(out);

@@ -1,9 +1,6 @@
 -- The first axis tells, or the two nodes are looked at. Assumes nothing.
-use Rattle.questions.proofs.Keys.{axis-far, near}
+use Rattle.questions.proofs.Keys.{axis-far}
 use Rattle.questions.proofs.lesser_key.Goals as goal
 
 pub returns-then-least-squared : goal.returns-then-least-squared
 returns-then-least-squared c = search axis-far
-
-pub returns : goal.returns
-returns c = search near

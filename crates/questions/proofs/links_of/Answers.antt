@@ -3,7 +3,7 @@ use Rattle.questions.proofs.LinkReplies.{links-low, links-short, links_fit, link
 use Rattle.questions.proofs.links_of.Goals as goal
 
 pub returns-then-p : goal.returns-then-p
-returns-then-p c = search links-low
+returns-then-p c = rw c.low.ensures (search links-low)
 
 pub returns-then-out-m : goal.returns-then-out-m
 returns-then-out-m c = search links-short

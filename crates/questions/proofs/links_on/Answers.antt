@@ -1,14 +1,10 @@
--- What the inspection said, and for a taken record what its slate says. Assumes nothing.
-use borrow.Author.Rules.{rules}
-use Rattle.questions.proofs.Replies.{known}
-use Rattle.questions.proofs.LinkReplies.{links_refused, links_there}
+-- The refusal of the inspection. Assumes nothing.
+use Rattle.std.proofs.Common.{rules}
+use Rattle.std.proofs.lemmas.Result.{err_from_is_err_and}
+use Rattle.questions.proofs.LinkReplies.{links_refused}
 use Rattle.questions.proofs.links_on.Goals as goal
 
-pub links_of-requires : goal.links_of-requires
-links_of-requires c = record { known = search known; blank = search rules }
-
-pub returns-in-Refused : goal.returns-in-Refused
-returns-in-Refused c = search links_refused
-
-pub returns-in-Fine : goal.returns-in-Fine
-returns-in-Fine c = search links_there
+pub returns-in_err-p : goal.returns-in_err-p
+returns-in_err-p c =
+    let p = err_from_is_err_and c.from_residual.result c.from_residual.ensures.1 in
+    rw (p.1, p.2) (links_refused _ _ _ c.in_err-p.ensures (search rules))
