@@ -9,7 +9,7 @@ use Rattle.paper.specs.Field.{least_work}
 use Rattle.paper.specs.Refusals.{Answer, check}
 use Rattle.paper.specs.Questions.{closest}
 use Rattle.paper.specs.Program.{lines, printed}
-use Rattle.paper.specs.Answers.{refuses, checked, found}
+use Rattle.paper.specs.Answers.{refuses, told}
 use Rattle.paper.specs.declared.Refusal.TheVariants as R
 use Rattle.paper.proofs.Tables.{stop, pass, passed}
 use Rattle.questions.specs.Asking.{Looks}
@@ -32,9 +32,9 @@ module _ (bytes : List ℕ) where
     pub is-long : 65_536 < length bytes → new ≡ replicate (length old) 0 → Holds (lines (refuses R.Long) (refuses R.Long)) out r → Reports bytes new out r
     is-long l z h = record { holds = rw (long-printed l) h; wiped = rw e at z }
 
-    pub is-looked : {s : Looked} → length bytes ≤ 65_536 → Looks bytes s old new → Holds (lines (checked s.checked) (found s.closest)) out r
+    pub is-looked : {s : Looked} → length bytes ≤ 65_536 → Looks bytes s old new → Holds (lines (told s.checked) (told s.closest)) out r
         → Reports bytes new out r
     is-looked {s} l k h =
-        let c : checked s.checked ≡ check bytes least_work = rw e at k.checks.answer in
-        let f : found s.closest ≡ closest bytes least_work = rw e at k.finds.answer in
+        let c : told s.checked ≡ check bytes least_work = rw e at k.checks.answer in
+        let f : told s.closest ≡ closest bytes least_work = rw e at k.finds.answer in
         record { holds = rw (short-printed l, ← c, ← f) h; wiped = rw e at k.checks.wiped }

@@ -5,29 +5,16 @@
 ghost use Rattle.std.specs.Prelude.{◌++◌, ◌+◌, ◌≤◌, length, IfOk};
 ghost use Rattle.paper.specs.Program.{digits, spaced, line_end, closest_line, lines};
 ghost use Rattle.paper.specs.Refusals.{given};
-ghost use Rattle.paper.specs.Answers.{refuses, checked as told, found};
+ghost use Rattle.paper.specs.Answers.{refuses, told};
 ghost use Rattle.lines.specs.Printing.{Put, refusal_line, count_lines, Holds, Reports};
 ghost use Rattle.lines.specs.Reading.{Filled};
 
-use paper::{Checked, Closest, Refusal};
+use itoa::Buffer;
+use paper::Refusal;
 use std::io;
 use std::io::Read;
 
-// Writes the digits of x from `at` on. There are at most 20, so it calls itself at most 19 times. Each put_ gives the place after what it wrote.
-fn put_digits(out: &mut [u8], at: usize, x: u64) -> usize
-    requires { at + length (digits x) ≤ length out.old }
-    ensures { Put (length (digits x)) out.old out.new at result (digits x) }
-{
-    if x < 10 {
-        out[at] = 48 + x as u8;
-        return at + 1;
-    }
-    let last = put_digits(out, at, x / 10);
-    out[last] = 48 + (x % 10) as u8;
-    last + 1
-}
-
-// Writes a text.
+// Writes a text, and gives the place after it, as each put_ does.
 fn put_text(out: &mut [u8], at: usize, text: &[u8]) -> usize
     requires { at + length text.now ≤ length out.old }
     ensures { Put (length text.now) out.old out.new at result text.now }
@@ -42,7 +29,8 @@ fn put_spaced(out: &mut [u8], at: usize, x: u64) -> usize
     ensures { Put 21 out.old out.new at result (spaced x) }
 {
     let next = put_text(out, at, b" ");
-    put_digits(out, next, x)
+    let mut buffer = Buffer::new();
+    put_text(out, next, buffer.format(x).as_bytes())
 }
 
 // Writes a word and two numbers.
@@ -70,7 +58,7 @@ fn put_refusal(out: &mut [u8], x: Refusal) -> usize
     requires { 128 ≤ length out.old }
     ensures { Put 50 out.old out.new 0 result (refusal_line x) }
 {
-    let end = put_two(out, 0, b"refused", paper::number_of(x), paper::value_of(x));
+    let end = put_two(out, 0, b"refused", x.number(), x.value());
     put_text(out, end, b"\n")
 }
 
@@ -98,31 +86,35 @@ fn put_no_holes(out: &mut [u8], at: usize, why: Refusal) -> usize
     requires { at + 71 ≤ length out.old }
     ensures { Put 71 out.old out.new at result (closest_line (refuses why)) }
 {
-    if paper::number_of(why) == 15 {
-        return put_text(out, at, b"closest none\n");
+    match why {
+        Refusal::Single => put_text(out, at, b"closest none\n"),
+        _ => put_text(out, at, b"closest low\n"),
     }
-    put_text(out, at, b"closest low\n")
 }
 
 // Writes the last line of a taken record.
-fn put_closest(out: &mut [u8], at: usize, closest: Closest) -> usize
+fn put_closest(out: &mut [u8], at: usize, closest: Result<(u64, u64, u64), Refusal>) -> usize
     requires { at + 71 ≤ length out.old }
-    ensures { Put 71 out.old out.new at result (closest_line (found closest)) }
+    ensures { Put 71 out.old out.new at result (closest_line (told closest)) }
 {
     match closest {
-        Closest::Holes(i, j, d) => put_holes(out, at, i, j, d),
-        Closest::Refused(x) => put_no_holes(out, at, x),
+        Ok((i, j, d)) => put_holes(out, at, i, j, d),
+        Err(x) => put_no_holes(out, at, x),
     }
 }
 
 // Writes all the lines.
-fn put_lines(out: &mut [u8], checked: Checked, closest: Closest) -> usize
+fn put_lines(
+    out: &mut [u8],
+    checked: Result<(u64, u64), Refusal>,
+    closest: Result<(u64, u64, u64), Refusal>,
+) -> usize
     requires { 128 ≤ length out.old }
-    ensures { Put 128 out.old out.new 0 result (lines (told checked) (found closest)) }
+    ensures { Put 128 out.old out.new 0 result (lines (told checked) (told closest)) }
 {
     match checked {
-        Checked::Refused(x) => put_refusal(out, x),
-        Checked::Taken(n, m) => {
+        Err(x) => put_refusal(out, x),
+        Ok((n, m)) => {
             let at = put_counts(out, n, m);
             put_closest(out, at, closest)
         }
@@ -130,8 +122,12 @@ fn put_lines(out: &mut [u8], checked: Checked, closest: Closest) -> usize
 }
 
 // Writes the lines for what was found, followed by zeros, and gives how many bytes they are. Any numbers fit.
-pub fn write_lines(out: &mut [u8; 128], checked: Checked, closest: Closest) -> usize
-    ensures { Holds (lines (told checked) (found closest)) out.new result }
+pub fn write_lines(
+    out: &mut [u8; 128],
+    checked: Result<(u64, u64), Refusal>,
+    closest: Result<(u64, u64, u64), Refusal>,
+) -> usize
+    ensures { Holds (lines (told checked) (told closest)) out.new result }
 {
     words::zero(out);
     put_lines(out, checked, closest)
@@ -144,16 +140,10 @@ pub fn report(bytes: &[u8], work: &mut [u8; 65536], out: &mut [u8; 128]) -> usiz
 {
     if 65536 < bytes.len() {
         words::zero(work);
-        return write_lines(
-            out,
-            Checked::Refused(Refusal::Long),
-            Closest::Refused(Refusal::Long),
-        );
+        return write_lines(out, Err(Refusal::Long), Err(Refusal::Long));
     }
     let seen = questions::look(bytes, work);
-    let checked = seen.checked;
-    let closest = seen.closest;
-    write_lines(out, checked, closest)
+    write_lines(out, seen.checked, seen.closest)
 }
 
 // Reads the start of an input into a buffer, as much as the input has and the buffer holds, and gives how many bytes that is.

@@ -15,7 +15,7 @@ pub record Numbers : Type 0 where
   pub third : ℕ
 
 -- a refusal's number and value; or 0 and the values that are given
-unfoldable pub flat : {A : Type 0} → (A → Numbers) → Answer A → Numbers
+abbrev pub flat : {A : Type 0} → (A → Numbers) → Answer A → Numbers
 flat values (refused n v) = record { number = n; first = v; second = 0; third = 0 }
 flat values (given t) = values t
 
@@ -23,9 +23,9 @@ flat values (given t) = values t
 abbrev pub counts : ℕ × ℕ → Numbers
 counts t = record { number = 0; first = t.0; second = t.1; third = 0 }
 
--- the closest two holes and their squared distance
-abbrev pub two_holes : ℕ × ℕ × ℕ → Numbers
-two_holes t = record { number = 0; first = t.0; second = t.1; third = t.2 }
+-- three numbers, as the closest two holes and their squared distance
+abbrev pub three : ℕ × ℕ × ℕ → Numbers
+three t = record { number = 0; first = t.0; second = t.1; third = t.2 }
 
 -- whether the pitch is kept
 abbrev pub yes_or_no : Bool → Numbers

@@ -4,11 +4,12 @@
 ghost use Rattle.paper.specs.Record.{holes_part, nodes_part, pairs_part};
 ghost use Rattle.paper.specs.Refusals.{build, check};
 ghost use Rattle.paper.specs.Questions.{closest, pitch, links};
-ghost use Rattle.paper.specs.Answers.{refuses};
-ghost use Rattle.press.specs.Flat.{flat, counts, two_holes, yes_or_no, Says, Tells, Finishes, HandsOver};
-ghost use Rattle.std.specs.Prelude.{length};
+ghost use Rattle.paper.specs.Answers.{told};
+ghost use Rattle.press.specs.Flat.{flat, counts, three, yes_or_no, Says, Tells, Finishes, HandsOver};
+ghost use Rattle.std.specs.Prelude.{◌≡◌, length};
 
-use paper::{Checked, Closest, Pitch, Refusal, Wrote};
+use paper::Refusal;
+use record::{Place, Section};
 
 // Number 0 is done, with the values that the call gives; any other is the refusal, with its value first. What is not used is 0.
 #[repr(C)]
@@ -28,15 +29,36 @@ pub struct Part {
     pub length: u64,
 }
 
-// A refusal in numbers.
-fn refusal(x: Refusal) -> Answer
-    ensures { Says (flat counts (refuses x)) result }
-{
-    Answer {
-        number: paper::number_of(x),
-        first: paper::value_of(x),
-        second: 0,
-        third: 0,
+// What a call said, in numbers.
+impl From<Result<(u64, u64, u64), Refusal>> for Answer {
+    ghost from_gives = { λ said r. Says (flat three (told said)) r };
+
+    fn from(said: Result<(u64, u64, u64), Refusal>) -> Answer {
+        match said {
+            Ok((first, second, third)) => Answer {
+                number: 0,
+                first,
+                second,
+                third,
+            },
+            Err(x) => Answer {
+                number: x.number(),
+                first: x.value(),
+                second: 0,
+                third: 0,
+            },
+        }
+    }
+}
+
+impl From<Place> for Part {
+    ghost from_gives = { λ p r. (r.start ≡ p.start) × (r.length ≡ p.size) };
+
+    fn from(place: Place) -> Part {
+        Part {
+            start: place.start as u64,
+            length: place.size as u64,
+        }
     }
 }
 
@@ -51,15 +73,7 @@ pub extern "C" fn antlophis_build(
 ) -> Answer
     ensures { Finishes (build holes.now a b (length work.old) (length out.old)) result work.old work.new out.old out.new }
 {
-    match record::build(holes, a, b, work, out) {
-        Wrote::Refused(x) => refusal(x),
-        Wrote::Bytes(n) => Answer {
-            number: 0,
-            first: n,
-            second: 0,
-            third: 0,
-        },
-    }
+    Answer::from(record::build(holes, a, b, work, out).map(|n| (n, 0, 0)))
 }
 
 // Takes a record exactly when it meets document 01's record rules: the first number is its holes, the second its pairs.
@@ -67,31 +81,15 @@ pub extern "C" fn antlophis_build(
 pub extern "C" fn antlophis_check(bytes: &[u8], work: &mut [u8]) -> Answer
     ensures { Tells (flat counts (check bytes.now (length work.old))) result work.old work.new }
 {
-    match record::check(bytes, work) {
-        Checked::Refused(x) => refusal(x),
-        Checked::Taken(n, m) => Answer {
-            number: 0,
-            first: n,
-            second: m,
-            third: 0,
-        },
-    }
+    Answer::from(record::check(bytes, work).map(|(n, m)| (n, m, 0)))
 }
 
 // The closest pair of a record's holes: the first two numbers are the holes, the third is their squared distance.
 #[unsafe(no_mangle)]
 pub extern "C" fn antlophis_closest(bytes: &[u8], work: &mut [u8]) -> Answer
-    ensures { Tells (flat two_holes (closest bytes.now (length work.old))) result work.old work.new }
+    ensures { Tells (flat three (closest bytes.now (length work.old))) result work.old work.new }
 {
-    match questions::closest(bytes, work) {
-        Closest::Refused(x) => refusal(x),
-        Closest::Holes(i, j, d) => Answer {
-            number: 0,
-            first: i,
-            second: j,
-            third: d,
-        },
-    }
+    Answer::from(questions::closest(bytes, work))
 }
 
 // Whether every two holes of a record are at least p apart: the first number is 1 for yes and 0 for no.
@@ -99,21 +97,7 @@ pub extern "C" fn antlophis_closest(bytes: &[u8], work: &mut [u8]) -> Answer
 pub extern "C" fn antlophis_pitch(bytes: &[u8], p: u64, work: &mut [u8]) -> Answer
     ensures { Tells (flat yes_or_no (pitch bytes.now p (length work.old))) result work.old work.new }
 {
-    match questions::pitch(bytes, p, work) {
-        Pitch::Refused(x) => refusal(x),
-        Pitch::Yes => Answer {
-            number: 0,
-            first: 1,
-            second: 0,
-            third: 0,
-        },
-        Pitch::No => Answer {
-            number: 0,
-            first: 0,
-            second: 0,
-            third: 0,
-        },
-    }
+    Answer::from(questions::pitch(bytes, p, work).map(|kept| (u64::from(kept), 0, 0)))
 }
 
 // Writes the links of a record into an output: the first number is how many bytes they have.
@@ -121,15 +105,7 @@ pub extern "C" fn antlophis_pitch(bytes: &[u8], p: u64, work: &mut [u8]) -> Answ
 pub extern "C" fn antlophis_links(bytes: &[u8], work: &mut [u8], out: &mut [u8]) -> Answer
     ensures { Finishes (links bytes.now (length work.old) (length out.old)) result work.old work.new out.old out.new }
 {
-    match questions::links(bytes, work, out) {
-        Wrote::Refused(x) => refusal(x),
-        Wrote::Bytes(n) => Answer {
-            number: 0,
-            first: n,
-            second: 0,
-            third: 0,
-        },
-    }
+    Answer::from(questions::links(bytes, work, out).map(|n| (n, 0, 0)))
 }
 
 // The holes, the nodes, the pairs of a record, without their count; the empty part at the start of one that is refused.
@@ -137,31 +113,19 @@ pub extern "C" fn antlophis_links(bytes: &[u8], work: &mut [u8], out: &mut [u8])
 pub extern "C" fn antlophis_holes(bytes: &[u8], work: &mut [u8]) -> Part
     ensures { HandsOver holes_part bytes.now result work.old work.new }
 {
-    let p = record::holes_place(bytes, work);
-    Part {
-        start: p.start as u64,
-        length: p.size as u64,
-    }
+    Part::from(record::place_of(bytes, work, Section::Holes))
 }
 
 #[unsafe(no_mangle)]
 pub extern "C" fn antlophis_nodes(bytes: &[u8], work: &mut [u8]) -> Part
     ensures { HandsOver nodes_part bytes.now result work.old work.new }
 {
-    let p = record::nodes_place(bytes, work);
-    Part {
-        start: p.start as u64,
-        length: p.size as u64,
-    }
+    Part::from(record::place_of(bytes, work, Section::Nodes))
 }
 
 #[unsafe(no_mangle)]
 pub extern "C" fn antlophis_pairs(bytes: &[u8], work: &mut [u8]) -> Part
     ensures { HandsOver pairs_part bytes.now result work.old work.new }
 {
-    let p = record::pairs_place(bytes, work);
-    Part {
-        start: p.start as u64,
-        length: p.size as u64,
-    }
+    Part::from(record::place_of(bytes, work, Section::Pairs))
 }

@@ -1,13 +1,13 @@
 // Runs document 01's sheets that no theorem has, and cases that were made outside the project, and prints a line for each: `NAME ok`, or
-// what was got. The arguments name the files of the cases. A file has ten numbers of eight bytes: the call, as `called` numbers them, its
+// what was got. The arguments name the files of the cases. A file has ten numbers of eight bytes: the call, as `Call` numbers them, its
 // two numbers, the lengths of work area and output, the answer in four numbers, and the length of the input; then the input, and the
 // output that is expected.
 #![tactic(auto)]
 
 ghost use Rattle.std.specs.Prelude.{◌*◌, ◌<◌, ◌≤◌, length, IfOk};
 
-use paper::{Checked, Closest, Pitch, Refusal, Wrote};
-use record::Place;
+use paper::Refusal;
+use record::{Place, Section};
 use std::env::FillError;
 use std::rt::{Env, Files};
 use std::{fmt, fs, io};
@@ -33,139 +33,130 @@ impl fmt::Display for Told {
     }
 }
 
-// What a case or a sheet comes to: what is right is ok, and of anything else the answer is printed.
-#[derive(Clone, Copy)]
-enum Outcome {
-    Agrees,
-    Differs(Told),
-}
-
-impl fmt::Display for Outcome {
-    fn fmt<W: fmt::Write>(&self, f: &mut fmt::Formatter<W>) -> fmt::Result {
-        match self {
-            Outcome::Agrees => write!(f, "ok"),
-            Outcome::Differs(got) => write!(f, "differs: answer {got}"),
+// What is given.
+impl From<(u64, u64, u64)> for Told {
+    fn from((first, second, third): (u64, u64, u64)) -> Told {
+        Told {
+            number: 0,
+            first,
+            second,
+            third,
         }
     }
 }
 
-fn given(first: u64, second: u64, third: u64) -> Told {
-    Told {
-        number: 0,
-        first,
-        second,
-        third,
+// A refusal.
+impl From<Refusal> for Told {
+    fn from(x: Refusal) -> Told {
+        Told {
+            number: x.number(),
+            first: x.value(),
+            second: 0,
+            third: 0,
+        }
     }
 }
 
-fn refusal(x: Refusal) -> Told {
-    Told {
-        number: paper::number_of(x),
-        first: paper::value_of(x),
-        second: 0,
-        third: 0,
+// What a call said.
+impl From<Result<(u64, u64, u64), Refusal>> for Told {
+    fn from(said: Result<(u64, u64, u64), Refusal>) -> Told {
+        match said {
+            Ok(values) => values.into(),
+            Err(x) => x.into(),
+        }
     }
 }
 
-fn wrote(answer: Wrote) -> Told {
-    match answer {
-        Wrote::Bytes(n) => given(n, 0, 0),
-        Wrote::Refused(x) => refusal(x),
+// The calls.
+#[derive(Clone, Copy)]
+enum Call {
+    Build,
+    Check,
+    Section(Section),
+    Closest,
+    Pitch,
+    Links,
+    Printed,
+}
+
+// As the cases number them: any number that no other call has is the printed lines.
+impl From<usize> for Call {
+    fn from(number: usize) -> Call {
+        match number {
+            1 => Call::Build,
+            2 => Call::Check,
+            3 => Call::Section(Section::Holes),
+            4 => Call::Section(Section::Nodes),
+            5 => Call::Section(Section::Pairs),
+            6 => Call::Closest,
+            7 => Call::Pitch,
+            8 => Call::Links,
+            _ => Call::Printed,
+        }
     }
 }
 
-fn counted(answer: Checked) -> Told {
-    match answer {
-        Checked::Taken(n, m) => given(n, m, 0),
-        Checked::Refused(x) => refusal(x),
-    }
-}
+// What a case or a sheet comes to: nothing more to say where it is right, or else the answer that was got.
+type Outcome = Result<(), Told>;
 
-fn found(answer: Closest) -> Told {
-    match answer {
-        Closest::Holes(i, j, d) => given(i, j, d),
-        Closest::Refused(x) => refusal(x),
-    }
-}
-
-fn pitched(answer: Pitch) -> Told {
-    match answer {
-        Pitch::Yes => given(1, 0, 0),
-        Pitch::No => given(0, 0, 0),
-        Pitch::Refused(x) => refusal(x),
-    }
-}
+// The answer of a file that is no case, or of one with longer areas than those here.
+const UNFIT: Told = Told {
+    number: 0,
+    first: 0,
+    second: 0,
+    third: 0,
+};
 
 // Writes the bytes at the start of an output that has room for them.
 fn put(out: &mut [u8], bytes: &[u8]) {
-    if out.len() < bytes.len() {
-        return;
+    if bytes.len() <= out.len() {
+        out[..bytes.len()].copy_from_slice(bytes);
     }
-    words::copy(out, 0, bytes);
 }
 
 // A section: its place, and its bytes at the start of the output.
 fn handed(place: Place, part: &[u8], out: &mut [u8]) -> Told {
     put(out, part);
-    given(place.start as u64, place.size as u64, 0)
+    Told::from((place.start as u64, place.size as u64, 0))
 }
 
 // What the program prints, at the start of the output.
-fn put_printed(out: &mut [u8], text: &[u8; 128]) {
-    put(out, text);
-}
-
 fn printed(input: &[u8], out: &mut [u8]) -> Told {
     let mut work = [7u8; 65536];
     let mut text = [7u8; 128];
     let n = lines::report(input, &mut work, &mut text);
-    put_printed(out, &text);
-    given(n as u64, 0, 0)
+    put(out, &text);
+    Told::from((n as u64, 0, 0))
 }
 
 // One call. A call that writes nothing leaves the output as it is.
-fn called(call: usize, x: u64, y: u64, input: &[u8], work: &mut [u8], out: &mut [u8]) -> Told {
+fn called(call: Call, x: u64, y: u64, input: &[u8], work: &mut [u8], out: &mut [u8]) -> Told {
     match call {
-        1 => wrote(record::build(input, x, y, work, out)),
-        2 => counted(record::check(input, work)),
-        3 => handed(
-            record::holes_place(input, work),
-            record::holes(input, work),
+        Call::Build => Told::from(record::build(input, x, y, work, out).map(|n| (n, 0, 0))),
+        Call::Check => Told::from(record::check(input, work).map(|(n, m)| (n, m, 0))),
+        Call::Section(section) => handed(
+            record::place_of(input, work, section),
+            record::section_of(input, work, section),
             out,
         ),
-        4 => handed(
-            record::nodes_place(input, work),
-            record::nodes(input, work),
-            out,
-        ),
-        5 => handed(
-            record::pairs_place(input, work),
-            record::pairs(input, work),
-            out,
-        ),
-        6 => found(questions::closest(input, work)),
-        7 => pitched(questions::pitch(input, x, work)),
-        8 => wrote(questions::links(input, work, out)),
-        _ => printed(input, out),
+        Call::Closest => Told::from(questions::closest(input, work)),
+        Call::Pitch => Told::from(questions::pitch(input, x, work).map(|kept| (
+            u64::from(kept),
+            0,
+            0,
+        ))),
+        Call::Links => Told::from(questions::links(input, work, out).map(|n| (n, 0, 0))),
+        Call::Printed => printed(input, out),
     }
 }
 
 fn judged(right: bool, got: Told) -> Outcome {
-    if right {
-        Outcome::Agrees
-    } else {
-        Outcome::Differs(got)
-    }
+    if right { Ok(()) } else { Err(got) }
 }
 
 // Whether an area is all zero.
 fn blank(area: &[u8]) -> bool {
-    for i in 0..area.len() {
-        if area[i] != 0 {
-            return false;
-        }
-    }
-    true
+    area.iter().all(|&x| x == 0)
 }
 
 // Number k of a case.
@@ -173,7 +164,7 @@ fn number(file: &[u8], k: usize) -> usize
     requires k_bound { k < 10 }
     requires in_bounds { 80 ≤ length file.now }
 {
-    words::get64(file, 8 * k)
+    words::get::<8>(file, 8 * k)
 }
 
 // The answer that a case expects.
@@ -194,37 +185,27 @@ fn tried(file: &[u8], input: &[u8], output: &[u8], work: &mut [u8], out: &mut [u
 {
     let x = number(file, 1) as u64;
     let y = number(file, 2) as u64;
-    let got = called(number(file, 0), x, y, input, work, out);
+    let got = called(Call::from(number(file, 0)), x, y, input, work, out);
     let right = got == expected(file) && blank(work) && &*out == output;
     judged(right, got)
 }
 
-// A file that is no case, or one with longer areas than those here.
-fn unfit() -> Outcome {
-    judged(false, given(0, 0, 0))
-}
-
+// Runs the case in a file.
 fn run(file: &[u8]) -> Outcome {
     if file.len() < 80 {
-        return unfit();
+        return Err(UNFIT);
     }
     let w = number(file, 3);
     let o = number(file, 4);
     let n = number(file, 9);
-    if 65537 < w {
-        return unfit();
-    }
-    if 4096 < o {
-        return unfit();
-    }
-    if file.len() - 80 < n {
-        return unfit();
+    if 65537 < w || 4096 < o || file.len() - 80 < n {
+        return Err(UNFIT);
     }
     let mut work = [7u8; 65537];
     let mut out = [7u8; 4096];
     let input = &file[80..80 + n];
     let output = &file[80 + n..];
-    tried(file, input, output, &mut work[0..w], &mut out[0..o])
+    tried(file, input, output, &mut work[..w], &mut out[..o])
 }
 
 // The coordinates of n holes, 32 to a row.
@@ -233,32 +214,28 @@ fn lay_out(list: &mut [u8], n: usize)
     requires n_in_bounds { 4 * n ≤ length list.old }
 {
     for i in 0..n {
-        words::put16(list, 4 * i, 64 * (i % 32));
-        words::put16(list, 4 * i + 2, 64 * (i / 32));
+        words::put::<2>(list, 4 * i, 64 * (i % 32));
+        words::put::<2>(list, 4 * i + 2, 64 * (i / 32));
     }
 }
 
 // The first n bytes, or all where there are fewer.
 fn first(bytes: &[u8], n: usize) -> &[u8] {
-    if bytes.len() < n {
-        return bytes;
-    }
-    &bytes[0..n]
+    &bytes[..n.min(bytes.len())]
 }
 
 // Builds the record of a field at 1/8, and checks what was built.
-fn built(list: &[u8], work: &mut [u8], out: &mut [u8]) -> Told {
-    match record::build(list, 1, 8, work, out) {
-        Wrote::Refused(x) => refusal(x),
-        Wrote::Bytes(n) => counted(record::check(first(out, n as usize), work)),
-    }
+fn built(list: &[u8], work: &mut [u8], out: &mut [u8]) -> Result<(u64, u64, u64), Refusal> {
+    let size = record::build(list, 1, 8, work, out)?;
+    let (holes, pairs) = record::check(first(out, size as usize), work)?;
+    Ok((holes, pairs, 0))
 }
 
 // The same with areas of 65,536 bytes.
 fn full(list: &[u8]) -> Told {
     let mut work = [7u8; 65536];
     let mut out = [7u8; 65536];
-    built(list, &mut work, &mut out)
+    Told::from(built(list, &mut work, &mut out))
 }
 
 // "1,024 distinct holes pass, 1,025 give 3."
@@ -287,14 +264,16 @@ fn long_input() -> Outcome {
 fn shown(rt: &impl Print, name: &str, outcome: Outcome) -> io::Result<u64>
     ensures { IfOk result (λ right. right ≤ 1) }
 {
-    println!(rt; "{name} {outcome}")?;
-    Ok(one(matches!(outcome, Outcome::Agrees)))
-}
-
-fn one(right: bool) -> u64
-    ensures { result ≤ 1 }
-{
-    if right { 1 } else { 0 }
+    match outcome {
+        Ok(()) => {
+            println!(rt; "{name} ok")?;
+            Ok(1)
+        }
+        Err(got) => {
+            println!(rt; "{name} differs: answer {got}")?;
+            Ok(0)
+        }
+    }
 }
 
 // How many of the sheets agree.
@@ -357,20 +336,14 @@ fn argument_count(rt: &impl Env) -> usize
     ensures { result ≤ 1001 }
 {
     let mut path = [0u8; 4096];
-    for i in 0..1001 {
-        if let Err(FillError::NotPresent) = rt.arg(i, &mut path) {
-            return i;
-        }
-    }
-    1001
+    (0..1001)
+        .find(|&i| matches!(rt.arg(i, &mut path), Err(FillError::NotPresent)))
+        .unwrap_or(1001)
 }
 
 fn main(rt: HostRuntime) -> io::Result<()> {
     let n = argument_count(&rt);
-    if n < 1 {
-        return Ok(());
-    }
-    if 1000 < n {
+    if n < 1 || 1000 < n {
         return Ok(());
     }
     let right = sheets(&rt)? + cases(&rt, n)?;

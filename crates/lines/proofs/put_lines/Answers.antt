@@ -2,8 +2,8 @@
 use Rattle.lines.proofs.Putting.{all_refused, all_taken}
 use Rattle.lines.proofs.put_lines.Goals as goal
 
-pub returns-in-Refused : goal.returns-in-Refused
-returns-in-Refused c = search all_refused
+pub returns-in-Err : goal.returns-in-Err
+returns-in-Err c = rw c.in-Err.is (search all_refused)
 
-pub returns-in-Taken : goal.returns-in-Taken
-returns-in-Taken c = search all_taken
+pub returns-in-Ok : goal.returns-in-Ok
+returns-in-Ok c = rw c.in-Ok.is (search all_taken)
