@@ -1,5 +1,8 @@
 // The slate: the lent work area as 16 columns of 2,048 two-byte cells, one column for each thing known of a node or a hole.
 // All state the size of a field stands here and nowhere else, so that wiping the area leaves nothing of it.
+// The area is C's, and of fixed size: so nodes are rows of columns and no boxes, and what is unknown or over is a number that a cell can hold. It is
+// passed as the slice that it is: a struct that holds a `&mut` has every function ensure that it still holds the same one, which is more to read in
+// each contract than `Grid`.
 #![tactic(auto)]
 
 ghost use Rattle.std.specs.Prelude.{◌≡◌, ◌^◌, ◌<◌, ◌≤◌, length, replicate};
@@ -72,6 +75,17 @@ pub fn wipe(work: &mut [u8])
     words::zero(work);
 }
 
+// Lends the area to a step, and wipes it when the step is done. The step is lent too: what it leaves in an output of its own is known after it.
+pub fn lend<T, F: FnMut(&mut [u8]) -> T>(work: &mut [u8], step: &mut F) -> T
+    requires { (lent : _) → lent.now ≡ work.old → F.pre step.old lent }
+    ensures wiped { work.new ≡ replicate (length work.old) 0 }
+    ensures said { (lent left : _) × F.step step.old lent result left step.new × (lent.now ≡ work.old) }
+{
+    let said = step(work);
+    wipe(work);
+    said
+}
+
 // Sets the n words from word i on to 0.
 pub fn clear_words(work: &mut [u8], i: usize, n: usize)
     requires { WordsIn work.old i n }
@@ -96,6 +110,7 @@ pub fn cells<const N: usize>(work: &[u8], c: usize, k: usize) -> usize
 {
     let from = 2048 * c + N * k;
     let mut v = 0;
+    // A loop over words: LLVM makes one load of it.
     for i in (0..N).rev() {
         v = 65536 * v + words::load(work, from + i);
     }
@@ -110,6 +125,7 @@ pub fn set_cells<const N: usize>(work: &mut [u8], c: usize, k: usize, v: usize)
 {
     let from = 2048 * c + N * k;
     let mut rest = v;
+    // A loop over words: LLVM makes one store of it.
     for i in 0..N {
         words::save(work, from + i, rest % 65536);
         rest /= 65536;
