@@ -60,23 +60,20 @@ impl Refusal {
         ensures { result ≡ value self }
     {
         match self {
-            Refusal::Odd(x) => x,
-            Refusal::None => 0,
-            Refusal::Many(x) => x,
-            Refusal::Ratio => 0,
-            Refusal::Work => 65536,
-            Refusal::Twice(x) => x,
-            Refusal::Room(x) => x,
-            Refusal::Short(x) => x,
-            Refusal::Count(x) => x,
-            Refusal::Over(x) => x,
-            Refusal::Tree(x) => x,
-            Refusal::Loose(x) => x,
-            Refusal::Pair(x) => x,
-            Refusal::Cover(x) => x,
-            Refusal::Single => 0,
-            Refusal::Low(x) => x,
-            Refusal::Long => 65536,
+            Refusal::Odd(x)
+            | Refusal::Many(x)
+            | Refusal::Twice(x)
+            | Refusal::Room(x)
+            | Refusal::Short(x)
+            | Refusal::Count(x)
+            | Refusal::Over(x)
+            | Refusal::Tree(x)
+            | Refusal::Loose(x)
+            | Refusal::Pair(x)
+            | Refusal::Cover(x)
+            | Refusal::Low(x) => x,
+            Refusal::None | Refusal::Ratio | Refusal::Single => 0,
+            Refusal::Work | Refusal::Long => 65536,
         }
     }
 }
