@@ -1,12 +1,13 @@
 // Holes and boxes: a hole's coordinates in a list of bytes, holes that stand at one place, the box of a node on the slate, and separation.
-// Everything is over d coordinates, one to three of them.
+// Everything is over d coordinates, one to three of them. d stands beside the list in each call: clauses would say `holes.entry.bytes.now` of a struct
+// of both, since a struct with a reference has a value before and after a call, and the boxes of nodes ask for d without a list.
 #![tactic(auto)]
 
 ghost use Rattle.std.specs.Prelude.{ℕ, map, ◌≡◌, ◌&&◌, not, ◌+◌, ◌*◌, ◌<◌, ◌≤◌, min, max, eqb, leb, get_or};
 ghost use Rattle.words.specs.Words.{Read};
 ghost use Rattle.slate.specs.Slate.{Grid};
 ghost use Rattle.paper.specs.Lists.{same, below};
-ghost use Rattle.paper.specs.Field.{hole_at, holes_at, gap, square, distance², Ratio};
+ghost use Rattle.paper.specs.Field.{hole_at, holes_at, gap, square, distance²};
 ghost use Rattle.paper.specs.Tree.{Side, point, spot, around, long, longest, axis};
 ghost use Rattle.paper.specs.Separation.{G, D, separated};
 ghost use Rattle.paper.specs.Rules.{repeats};
@@ -16,6 +17,10 @@ ghost use Rattle.field.specs.Reach.{reach};
 ghost use Rattle.field.specs.Sides.{side_around, twice_centre, gap_on, squares, SideIn, Sided, LeftFrom, Squared};
 
 use std::marker::Model;
+
+mod ratio;
+
+pub use ratio::Ratio;
 
 // Coordinate x of hole i.
 pub fn coordinate(holes: &[u8], d: usize, i: usize, x: usize) -> usize
@@ -43,6 +48,7 @@ fn bucket(holes: &[u8], d: usize, i: usize) -> usize
     requires { HoleIn holes.now d i }
     ensures { Bucketed holes.now d (2 * d * i) result }
 {
+    // A `for`: the proof of a fold speaks of the closure's states too, and was 40 lines longer for this and `longest_side`.
     let mut b = 0;
     for x in 0..d {
         b = (37 * b + coordinate(holes, d, i, x)) % BUCKETS;
@@ -58,6 +64,7 @@ fn is_repeat(work: &[u8], holes: &[u8], d: usize, i: usize, b: usize) -> bool
     ensures { result ≡ repeats (holes_at d holes.now 0 (i + 1)) i }
 {
     let mut c = slate::cell(work, slate::MARKS, b);
+    // A `while`: a chain goes on where its cell says.
     while 0 < c {
         if same_place(holes, d, c - 1, i) {
             return true;
@@ -225,6 +232,7 @@ fn sum_of_squares<F: Fn(usize) -> usize>(d: usize, of: F) -> usize
     ensures is { (f : ℕ → ℕ) → ((x r : _) → x < d → F.post of x r → r ≡ f x) → result ≡ squares f d }
     ensures bound { result < 51539607552 }
 {
+    // A `for`, as in `bucket`: its invariant bounds the sum.
     let mut sum = 0;
     for x in 0..d {
         sum += squared(of(x));
@@ -245,6 +253,7 @@ pub fn longest_side(work: &[u8], d: usize, k: usize) -> usize
     requires { NodeOn work.now d k }
     ensures { (result ≡ longest (box_on work.now d k)) × (result < 65536) }
 {
+    // A `for`, as in `bucket`.
     let mut most = 0;
     for x in 0..d {
         most = most.max(side_on(work, x, k).length());
@@ -294,34 +303,31 @@ fn weighed(x: usize, y: usize) -> usize
 }
 
 // Whether D, here far, is not 0 and b²·D >= (2b + a)²·G, here size.
-fn wide_enough(a: usize, b: usize, size: usize, far: usize) -> bool
-    requires ratio { Ratio a b }
-    requires size_bound { (size < 51539607552) × (far < 51539607552) }
-    ensures { result ≡ (not (eqb far 0) && leb (square (2 * b + a) * size) (square b * far)) }
+fn wide_enough(ratio: Ratio, size: usize, far: usize) -> bool
+    requires { (size < 51539607552) × (far < 51539607552) }
+    ensures { result ≡ (not (eqb far 0) && leb (square (2 * ratio.b + ratio.a) * size) (square ratio.b * far)) }
 {
-    far != 0 && weighed(2 * b + a, size) <= weighed(b, far)
+    far != 0 && weighed(2 * ratio.b + ratio.a, size) <= weighed(ratio.b, far)
 }
 
-// Whether nodes j and k are separated at the ratio a/b.
-pub fn is_separated(work: &[u8], d: usize, a: usize, b: usize, j: usize, k: usize) -> bool
+// Whether nodes j and k are separated at the ratio.
+pub fn is_separated(work: &[u8], d: usize, ratio: Ratio, j: usize, k: usize) -> bool
     requires node_on { NodeOn work.now d j }
     requires k_bound { k < 2048 }
-    requires ratio { Ratio a b }
-    ensures { result ≡ separated a b (box_on work.now d j) (box_on work.now d k) }
+    ensures { result ≡ separated ratio.a ratio.b (box_on work.now d j) (box_on work.now d k) }
 {
     let far = distance(work, d, j, k);
     let size = girth(work, d, j).max(girth(work, d, k));
-    wide_enough(a, b, size, far)
+    wide_enough(ratio, size, far)
 }
 
-// The reach of node k at the ratio a/b: the least D at which it is separated from a node of no larger G.
-pub fn reach(work: &[u8], d: usize, a: usize, b: usize, k: usize) -> usize
-    requires node_on { NodeOn work.now d k }
-    requires ratio { Ratio a b }
-    ensures { (result ≡ reach a b (box_on work.now d k)) × (result < 562949953421312) }
+// The reach of node k at the ratio: the least D at which it is separated from a node of no larger G.
+pub fn reach(work: &[u8], d: usize, ratio: Ratio, k: usize) -> usize
+    requires { NodeOn work.now d k }
+    ensures { (result ≡ reach ratio.a ratio.b (box_on work.now d k)) × (result < 562949953421312) }
 {
-    let size = weighed(2 * b + a, girth(work, d, k));
-    size.div_ceil(squared(b)).max(1)
+    let size = weighed(2 * ratio.b + ratio.a, girth(work, d, k));
+    size.div_ceil(squared(ratio.b)).max(1)
 }
 
 // The axis on which node k's box is longest, the first of them on a tie.
@@ -329,6 +335,7 @@ pub fn cut_axis(work: &[u8], d: usize, k: usize) -> usize
     requires { NodeOn work.now d k }
     ensures { (result ≡ axis (box_on work.now d k)) × (result < d) }
 {
+    // A `for`: std's max_by_key gives the last of equals.
     let mut best = 0;
     for x in 1..d {
         if side_on(work, best, k).length() < side_on(work, x, k).length() {

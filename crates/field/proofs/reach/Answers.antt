@@ -40,6 +40,6 @@ pub returns : goal.returns
 returns c =
     let g = c.girth.ensures in
     let z = c.weighed-size.ensures in (
-      found _ c.requires.ratio g.0 z c.squared.ensures (search rules),
-      small c.squared.result c.requires.ratio g.1 z (search rules),
+      found _ c.args.ratio.in_range g.0 z c.squared.ensures (search rules),
+      small c.squared.result c.args.ratio.in_range g.1 z (search rules),
     )
