@@ -30,23 +30,24 @@ pub enum Node {
     Fork(usize, usize),
 }
 
-impl Node {
-    // A node by the two numbers that a record or the slate has for it.
-    fn from_numbers(two: (usize, usize)) -> Node
-        ensures { IsNode two.0 two.1 result }
-    {
-        if two.0 == LEAF {
-            Node::Leaf(two.1)
-        } else {
-            Node::Fork(two.0, two.1)
+// A node by the two numbers that a record or the slate has for it.
+impl From<(usize, usize)> for Node {
+    ghost from_gives = { λ two r. IsNode two.0 two.1 r };
+
+    fn from(two: (usize, usize)) -> Node {
+        match two {
+            (LEAF, hole) => Node::Leaf(hole),
+            (one, two) => Node::Fork(one, two),
         }
     }
+}
 
-    // A node's two numbers.
-    fn numbers(self) -> (usize, usize)
-        ensures { result ≡ numbers self }
-    {
-        match self {
+// A node's two numbers.
+impl From<Node> for (usize, usize) {
+    ghost from_gives = { λ node r. r ≡ numbers node };
+
+    fn from(node: Node) -> (usize, usize) {
+        match node {
             Node::Leaf(hole) => (LEAF, hole),
             Node::Fork(one, two) => (one, two),
         }
@@ -58,7 +59,7 @@ pub fn node_at(work: &[u8], k: usize) -> Node
     requires { Grid work.now × (k < 2048) }
     ensures { IsNode (cell work.now FIRST k) (cell work.now SECOND k) result }
 {
-    Node::from_numbers((
+    Node::from((
         slate::cell(work, slate::FIRST, k),
         slate::cell(work, slate::SECOND, k),
     ))
@@ -69,7 +70,7 @@ fn put_node(work: &mut [u8], k: usize, node: Node)
     requires { Grid work.old × (k < 2048) × ((numbers node).0 < 65536) × ((numbers node).1 < 65536) }
     ensures { NodePut work.old work.new k (numbers node).0 (numbers node).1 }
 {
-    let (one, two) = node.numbers();
+    let (one, two) = node.into();
     slate::set_cell(work, slate::FIRST, k, one);
     slate::set_cell(work, slate::SECOND, k, two);
 }
@@ -96,7 +97,7 @@ fn load_node(work: &mut [u8], nodes: &[u8], n: usize, k: usize) -> bool
     requires { Next nodes.now n k work.old }
     ensures { NodeTried nodes.now n k work.old work.new result }
 {
-    match Node::from_numbers(paper::two_numbers_at(nodes, 4 * k)) {
+    match Node::from(paper::two_numbers_at(nodes, 4 * k)) {
         Node::Leaf(hole) => load_leaf(work, n, k, hole),
         Node::Fork(one, two) => load_fork(work, n, k, one, two),
     }
@@ -395,7 +396,7 @@ fn sift(work: &mut [u8], holes: &[u8], d: usize, n: usize, s: Stretch, k: usize,
     f
 }
 
-// Puts the first holes of SCRATCH into a stretch.
+// Puts the first holes of SCRATCH into a stretch. A copy within the slate's bytes would be one more function of slate for this one caller.
 fn take_back(work: &mut [u8], s: Stretch)
     requires grid { Grid work.old }
     requires fits { s.from + s.size ≤ 2048 }
