@@ -10,6 +10,7 @@ use lib.Dec.{leb}
 use lib.ListN.{length, length-append}
 use Rattle.slate.specs.Columns.{FIRST, SECOND, REACH}
 use Rattle.slate.specs.Slate.{cell, CellsHeld}
+use Rattle.paper.specs.Field.{Ratio}
 use Rattle.paper.specs.Tree.{Tree, leaf, fork, longest}
 use Rattle.paper.specs.Separation.{D, separated}
 use Rattle.paper.specs.Record.{nodes_of, leaf_mark}
@@ -63,13 +64,13 @@ module _ {w : List ℕ} {d a b n i j : ℕ} (f : Faces w d a b n i j) where
   long_is k = rw (number-grow (tree_on w n) k)
 
   -- neither reaches further than D
-  module _ {x far : ℕ} (e : far ≡ D (box_on w d i) (box_on w d j)) (p : CellsHeld 4 w REACH i x) where
+  module _ (ratio : Ratio a b) {x far : ℕ} (e : far ≡ D (box_on w d i) (box_on w d j)) (p : CellsHeld 4 w REACH i x) where
     pub near_first : far < x → separated a b (box_on w d i) (box_on w d j) ≡ false
     near_first l = grind (arith, common_steps, first-reaches)
 
     pub far-second : {y : ℕ} → x ≤ far → CellsHeld 4 w REACH j y → leb y far ≡ separated a b (box_on w d i) (box_on w d j)
     far-second l q =
-        second-asked f.listable.ratio (box_on w d i) (box_on w d j)
+        second-asked ratio (box_on w d i) (box_on w d j)
         (p.is ∙ (f.listable.shapes i f.left).reach_is) e (q.is ∙ (f.listable.shapes j f.right).reach_is) l
 
   -- other nodes of the same tree that face each other

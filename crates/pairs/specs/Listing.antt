@@ -1,7 +1,6 @@
 -- Listing the pairs of the tree that stands on the slate, by document 01's rule, into an output that may be too short. Assumes nothing.
 use Rattle.std.specs.Prelude.{◌≡◌, Bool, List, ◌++◌, map, ℕ, ◌+◌, ◌*◌, ◌<◌, ◌≤◌, length, take, drop}
 use Rattle.paper.specs.Lists.{joined}
-use Rattle.paper.specs.Field.{Ratio}
 use Rattle.paper.specs.Tree.{Tree, number, longest}
 use Rattle.paper.specs.Separation.{separated}
 use Rattle.paper.specs.Pairs.{pairs, numbers}
@@ -55,7 +54,6 @@ pub record ShapesPut (d a b n : ℕ) (old new : List ℕ) : Type 0 where
 pub record Listable (w : List ℕ) (d a b n : ℕ) : Type 0 where
   pub stands : Stands w n
   pub axes : Axes d
-  pub ratio : Ratio a b
   pub shapes : Shapes w d a b n
   pub met : Met 0 (grown_on w n)
   pub regular : Regular (far_on w d a b) (long_on w d) (grown_on w n)

@@ -6,8 +6,8 @@ use Rattle.pairs.proofs.apart.Goals as goal
 
 pub returns-then-cells-far : goal.returns-then-cells-far
 returns-then-cells-far c =
-    far-second c.requires c.distance-far.ensures.0 c.cells.ensures (omega arith) c.cells-then-cells-far.ensures
+    far-second c.requires c.args.ratio.in_range c.distance-far.ensures.0 c.cells.ensures (omega arith) c.cells-then-cells-far.ensures
 
 pub returns-else-cells-far : goal.returns-else-cells-far
 returns-else-cells-far c =
-    let e = near_first c.requires c.distance-far.ensures.0 c.cells.ensures (omega arith) in grind (arith, common_steps)
+    let e = near_first c.requires c.args.ratio.in_range c.distance-far.ensures.0 c.cells.ensures (omega arith) in grind (arith, common_steps)

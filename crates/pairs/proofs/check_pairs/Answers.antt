@@ -14,6 +14,6 @@ found P n (Some i) h = record { within = h.1; holds = h.2; none_before = λ k l 
 
 pub returns : goal.returns
 returns c =
-    let good : ℕ → Type 0 = λ k. PairOn c.args.work.now c.args.d c.args.a c.args.b c.args.n (two_numbers_at c.args.pairs.now (4 * k)) in
+    let good : ℕ → Type 0 = λ k. PairOn c.args.work.now c.args.d c.args.ratio.a c.args.ratio.b c.args.n (two_numbers_at c.args.pairs.now (4 * k)) in
     found good _ _
     (first_from_Range _ _ _ _ (λ k. good k → ⊥) good c.find.ensures.ran (λ k q s. search (rules, tests)) (λ k q s. search (rules, tests)))

@@ -3,4 +3,4 @@ use Rattle.pairs.specs.Comparing.{pairs_below, Laid}
 use Rattle.pairs.proofs.list_pairs.Given as goal
 
 abbrev pub invariant-loop-k : goal.invariant-loop-k
-invariant-loop-k l = Laid (pairs_below l.work l.d l.a l.b l.n l.k) l.start l.initial.out l.out l.at
+invariant-loop-k l = Laid (pairs_below l.work l.d l.ratio.a l.ratio.b l.n l.k) l.start l.initial.out l.out l.at
