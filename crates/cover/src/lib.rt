@@ -1,5 +1,6 @@
 // The covering: the least two holes that are not covered by exactly one pair of a record.
 // A filter passes over the holes that are covered exactly once with every other; any other hole costs at most m + n steps, whatever the record says.
+// The list and its two counts stand beside the slate in each call, since `Ready` is a fact of all four, and the slate is lent.
 #![tactic(auto)]
 
 ghost use Rattle.std.specs.Prelude.{◌≡◌, ◌&&◌, ◌+◌, ◌-◌, ◌*◌, ◌^◌, ◌<◌, ◌≤◌, leb, ltb, min, max};
@@ -196,6 +197,7 @@ fn set_run(work: &mut [u8], at: usize, run: Span) -> bool
     requires { RunIn work.old at run.from run.end }
     ensures { RunSet at run.from run.end work.old work.new result }
 {
+    // A `for` and no `all`: each turn changes the slate, and the loop's invariant says what is on it between two turns.
     for i in run.from / 16..run.end.div_ceil(16) {
         if !set_bits(work, at + i, bits_in(run, i)) {
             return false;
@@ -235,6 +237,7 @@ fn next_kept(work: &[u8], ranks: Span) -> usize
     requires { RanksIn work.now ranks.from ranks.end }
     ensures { Gone work.now ranks.from ranks.end result }
 {
+    // A `while`: it goes on by as many ranks as the cell says.
     let mut x = ranks.from;
     while x < ranks.end {
         let s = slate::cell(work, slate::SKIP, x);
@@ -277,6 +280,7 @@ fn mark_rows(work: &mut [u8], block: Span, ranks: Span, columns: Span)
     requires { BlockIn work.old block.from block.end columns.from columns.end }
     ensures { Marked block.from block.end (crossing ranks.from ranks.end columns.from columns.end) work.old work.new }
 {
+    // A `while`: rows that are given up are passed over at once.
     let mut left = ranks.meet(block);
     while left.from < left.end {
         left.from = mark_next(work, block.from, left, columns);
@@ -355,11 +359,10 @@ fn sift(work: &mut [u8], pairs: &[u8], n: usize, m: usize)
     requires { Ready work.old pairs.now n m }
     ensures { Sifted pairs.now n m 0 n work.old work.new }
 {
-    let mut end = n;
-    while 0 < end {
-        let from = end.saturating_sub(256);
+    for b in (0..n.div_ceil(256)).rev() {
+        let from = 256 * b;
+        let end = n.min(from + 256);
         sift_block(work, pairs, n, m, Span { from, end });
-        end = from;
     }
 }
 

@@ -1,4 +1,5 @@
-use Rattle.std.proofs.Common.{sym, ◌∙◌, List, ℕ, ◌≤◌, arith, rules, inl, inr}
+-- The blocks are 256 ranks each, but for the last. Assumes nothing.
+use Rattle.std.proofs.Common.{◌≡◌, sym, ◌∙◌, List, ℕ, ◌+◌, ◌-◌, ◌*◌, ◌<◌, ◌≤◌, min, arith, rules, inl, inr}
 use Rattle.std.proofs.lemmas.Bool.{cases_lt}
 use Rattle.slate.specs.Columns.{SKIP}
 use Rattle.slate.proofs.Frames.{kept_cell, kept_wider, kept_both}
@@ -22,10 +23,30 @@ module _ {w₀ w ps : List ℕ} {n m end : ℕ} (g : Ready w₀ ps n m) (d : Sif
             ];
       }
 
-ruleset all = (still_ready, turn, rules)
+pub loop-b-init : goal.loop-b-init
+loop-b-init c = record { kept = search rules; good = λ x a b z. absurd (omega (arith, c.div_ceil-b.ensures)) }
 
 pub sift_block-requires : goal.sift_block-requires
-sift_block-requires c = search all
+sift_block-requires c =
+    let r = still_ready c.requires c.loop-b.invariant in
+    let l : 256 * (c.loop-b.b - 1) < c.args.n = omega (arith, c.div_ceil-b.ensures) in
+    let e : c.min-end.result ≡ min c.args.n (256 * (c.loop-b.b - 1) + 256) = c.min-end.ensures in
+    record {
+      ready = r;
+      judging_all = record {
+        block = record { grid = r.given.grid; order = omega arith; rows = omega arith; few = omega (arith, r.given.few) };
+        within = omega arith;
+        few = r.given.few;
+      };
+    }
 
-pub loop-end-preserved : goal.loop-end-preserved
-loop-end-preserved c = search all
+pub loop-b-preserved : goal.loop-b-preserved
+loop-b-preserved c =
+    let e : min c.args.n (256 * (c.loop-b.b - 1)) ≡ 256 * (c.loop-b.b - 1) = omega (arith, c.div_ceil-b.ensures) in
+    let f : c.min-end.result ≡ min c.args.n (256 * c.loop-b.b) = omega (arith, c.min-end.ensures) in
+    rw e (turn c.requires c.loop-b.invariant (omega arith) (rw f at c.sift_block.ensures))
+
+pub returns : goal.returns
+returns c =
+    let e : min c.args.n (256 * c.loop-b.b) ≡ 0 = omega arith in
+    rw e at c.loop-b.invariant
