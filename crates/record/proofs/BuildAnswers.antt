@@ -1,24 +1,20 @@
 -- What the builder answers, and what it leaves in an output that was all zero, when none of its refusals but ROOM can be due. Assumes nothing.
 use mathlib.Core.Path.{◌≡◌, refl, sym, ap, ap₂, ◌∙◌}
-use mathlib.Core.Bool.{Bool, true, false, not}
 use mathlib.Core.List.{List, [], ◌∷◌}
 use Prim.Native.Nat.{ℕ, ◌+◌, ◌*◌, ◌-◌, ◌/◌, ◌%◌, ◌≤◌, ◌<◌}
 use native.Mathlib.Omega.{arith}
 use lib.ListN.{length, replicate}
-use borrow.Author.Tests.{not-true, not-false}
 use Rattle.std.specs.Prelude.{Ok, Err, Option, Some, None}
 use Rattle.words.specs.Words.{Bytes, Written}
-use Rattle.paper.specs.Field.{holes_at, Ratio, ratio_ok, least_work}
+use Rattle.paper.specs.Field.{holes_at, Ratio, least_work}
 use Rattle.paper.specs.Record.{whole, written, built}
 use Rattle.paper.specs.Refusals.{number, value, build, refused, given}
 use Rattle.paper.specs.Rules.{Repeats}
 use Rattle.paper.specs.declared.Refusal.{Refusal}
 use Rattle.paper.specs.declared.Refusal.TheVariants as R
-use Rattle.paper.proofs.ListLaws.{both}
 use Rattle.theory.specs.Conditions.{First, here, later, all, ◌also◌}
 use Rattle.theory.specs.Conditions as due
 use Rattle.theory.proofs.Orders.{its_record, build-refuses, build_gives}
-use Rattle.theory.proofs.Statements.{ratio_is}
 use Rattle.theory.proofs.Reading.{length_holes, holes_flat}
 use Rattle.theory.proofs.Fields.{nodes-tree}
 use Rattle.theory.proofs.Lengths.{length_whole}
@@ -31,7 +27,7 @@ use Rattle.record.proofs.Outputs.{refused_zeroed, refused_blank, finished}
 use Rattle.record.proofs.BuildCases.{record_done}
 
 -- a field that none of the first six refusals is due for
-module _ (c : List ℕ) (a b w o : ℕ) (f : Buildable c a b (length c / 4)) (enough : least_work ≤ w) where
+module _ (c : List ℕ) (a b w o : ℕ) (f : Buildable c (length c / 4)) (ratio : Ratio a b) (enough : least_work ≤ w) where
   passed : {k x : ℕ} → First (due.room o (length (its_record c a b w o)) ∷ []) k x → build c a b w o ≡ refused k x
   passed {k} {x} r =
       (build-refuses c a b w o k x).1
@@ -39,7 +35,7 @@ module _ (c : List ℕ) (a b w o : ℕ) (f : Buildable c a b (length c / 4)) (en
       (later (λ y d. d.0 (omega (arith, f.even)))
       (later (λ y d. omega (arith, d.0, f.some))
       (later (λ y d. omega (arith, d.0, f.few))
-      (later (λ y d. d.0 f.ratio)
+      (later (λ y d. d.0 ratio)
       (later (λ y d. f.distinct d.holds.other y d.holds.lower d.within d.holds.place) r))))))
 
   gives : length (its_record c a b w o) ≤ o → build c a b w o ≡ given (its_record c a b w o)
@@ -49,31 +45,31 @@ module _ (c : List ℕ) (a b w o : ℕ) (f : Buildable c a b (length c / 4)) (en
             also (λ y d. d.0 (omega (arith, f.even)))
             also (λ y d. omega (arith, d.0, f.some))
             also (λ y d. omega (arith, d.0, f.few))
-            also (λ y d. d.0 f.ratio)
+            also (λ y d. d.0 ratio)
             also (λ y d. f.distinct d.holds.other y d.holds.lower d.within d.holds.place)
             also (λ y d. omega (arith, d.0))
             also all,
         refl,
       )
 
-module _ {c : List ℕ} {a b n : ℕ} (f : Buildable c a b n) where
+module _ {c : List ℕ} {n : ℕ} (f : Buildable c n) where
   count_is : length c / 4 ≡ n
   count_is = omega (arith, f.even)
 
-  at_count : Buildable c a b (length c / 4)
+  at_count : Buildable c (length c / 4)
   at_count = rw count_is f
 
   -- the record's length
-  length_is : {w : List ℕ} → Drawn c a b n w → length (written (built a b (holes_at 2 c 0 n))) ≡ whole n (length (pairs_on w 2 a b n))
+  length_is : {a b : ℕ} {w : List ℕ} → Drawn c a b n w → length (written (built a b (holes_at 2 c 0 n))) ≡ whole n (length (pairs_on w 2 a b n))
   unfolding built
-  length_is d =
+  length_is {a = a} {b = b} d =
       let l = length_holes 2 c 0 n in
       let flat = holes_flat 2 c 0 n in
       let some : 1 ≤ length (holes_at 2 c 0 n) = rw l f.some in
       length_whole (built a b (holes_at 2 c 0 n)) flat some (nodes-tree (holes_at 2 c 0 n) 2 flat f.distinct some)
       ∙ ap₂ whole l (ap length (sym d.pairs))
 
-  module _ {w out out' : List ℕ} {r : ℕ} (d : Drawn c a b n w) (blank : Blank out) (l : Listed (pairs_on w 2 a b n) (6 + 12 * n) out out' r) where
+  module _ {a b : ℕ} {w out out' : List ℕ} {r : ℕ} (ratio : Ratio a b) (d : Drawn c a b n w) (blank : Blank out) (l : Listed (pairs_on w 2 a b n) (6 + 12 * n) out out' r) where
     enough : least_work ≤ length w
     enough = d.listable.stands.grid
 
@@ -82,14 +78,14 @@ module _ {c : List ℕ} {a b n : ℕ} (f : Buildable c a b n) where
 
     pub no_room : {out'' : List ℕ} → length out' < r → out'' ≡ replicate (length out') 0 → Made (build c a b) (length w) out out'' (Err (R.Room r))
     no_room h z =
-        let q = passed c a b (length w) (length out) at_count enough (here refl (omega (arith, r-is, l.len), r-is)) in
+        let q = passed c a b (length w) (length out) at_count ratio enough (here refl (omega (arith, r-is, l.len), r-is)) in
         refused_zeroed (R.Room r) q (rw (← l.len) z)
 
     pub record-made : {out'' : List ℕ} → r ≤ length out' → Written out' out'' 0 (front c a b n ((r - (6 + 12 * n)) / 4) w)
         → Made (build c a b) (length w) out out'' (Ok r)
     record-made h s =
         let room : length (its_record c a b (length w) (length out)) ≤ length out = omega (arith, r-is, l.len) in
-        finished blank (gives c a b (length w) (length out) at_count enough room) r-is room
+        finished blank (gives c a b (length w) (length out) at_count ratio enough room) r-is room
         (rw count_is (record_done f d (omega (arith, l.next)) l h s))
 
 -- each refusal that comes before the record is looked at: what was tested before it is not due
@@ -114,43 +110,38 @@ module _ (c out : List ℕ) (a b w : ℕ) (blank : Blank out) where
           refusing (R.Many (length c / 4))
           (later (λ y d. omega (arith, d.0)) (later (λ y d. d.0 even) (later (λ y d. omega (arith, d.0)) (here refl (l, refl)))))
 
-      module _ (some : length c / 4 ≡ 0 → ⊥) (few : length c / 4 ≤ 1_024) {t : Bool} (tested : t ≡ ratio_ok a b) where
-        pub refuse-ratio : not t ≡ true → Made (build c a b) w out out (Err R.Ratio)
-        refuse-ratio e =
-            refusing R.Ratio
+      module _ (some : length c / 4 ≡ 0 → ⊥) (few : length c / 4 ≤ 1_024) where
+        pub refuse-ratio : {x : Refusal} → (Ratio a b → ⊥) × (x ≡ R.Ratio) → Made (build c a b) w out out (Err x)
+        refuse-ratio f =
+            rw f.1
+            (refusing R.Ratio
             (later (λ y d. omega (arith, d.0))
             (later (λ y d. d.0 even)
             (later (λ y d. some d.0)
             (later (λ y d. omega (arith, d.0))
-            (here refl (λ ok. both ((ratio_is a b).1 ok) (sym tested ∙ not-true t e), refl))))))
+            (here refl (f.0, refl)))))))
 
-        module _ (e : not t ≡ false) where
-          right : Ratio a b
-          right = (ratio_is a b).0 (sym tested ∙ not-false t e)
+        pub refuse-twice : Ratio a b → {u v : List ℕ} {s : Option ℕ} {i : ℕ} → Searched c 2 (length c / 4) u v s → s ≡ Some i
+            → Made (build c a b) w out out (Err (R.Twice i))
+        refuse-twice ratio {i = i} d q =
+            let g : Finds (Repeats (holes_at 2 c 0 (length c / 4))) (length c / 4) (Some i) = rw q at d.found in
+            refusing (R.Twice i)
+            (later (λ y d. omega (arith, d.0))
+            (later (λ y d. d.0 even)
+            (later (λ y d. some d.0)
+            (later (λ y d. omega (arith, d.0))
+            (later (λ y d. d.0 ratio)
+            (here refl (rw (length_holes 2 c 0 (length c / 4)) g)))))))
 
-          pub refuse-twice : {u v : List ℕ} {s : Option ℕ} {i : ℕ} → Searched c 2 (length c / 4) u v s → s ≡ Some i
-              → Made (build c a b) w out out (Err (R.Twice i))
-          refuse-twice {i} d q =
-              let g : Finds (Repeats (holes_at 2 c 0 (length c / 4))) (length c / 4) (Some i) = rw q at d.found in
-              refusing (R.Twice i)
-              (later (λ y d. omega (arith, d.0))
-              (later (λ y d. d.0 even)
-              (later (λ y d. some d.0)
-              (later (λ y d. omega (arith, d.0))
-              (later (λ y d. d.0 right)
-              (here refl (rw (length_holes 2 c 0 (length c / 4)) g)))))))
-
--- a field that none of the first six refusals is due for
-pub buildable : (c : List ℕ) → Bytes c → (a b : ℕ) {t : Bool} {u v : List ℕ} {s : Option ℕ} → t ≡ ratio_ok a b → not t ≡ false
-    → Searched c 2 (length c / 4) u v s → s ≡ None → length c % 4 ≡ 0 → (length c / 4 ≡ 0 → ⊥)
-    → length c / 4 ≤ 1_024 → Buildable c a b (length c / 4)
-buildable c small a b {t} tested e d q even some few =
+-- holes that none of the refusals 1, 2, 3 and 6 is due for
+pub buildable : (c : List ℕ) → Bytes c → {u v : List ℕ} {s : Option ℕ} → Searched c 2 (length c / 4) u v s → s ≡ None → length c % 4 ≡ 0 → (length c / 4 ≡ 0 → ⊥)
+    → length c / 4 ≤ 1_024 → Buildable c (length c / 4)
+buildable c small d q even some few =
     let g : Finds (Repeats (holes_at 2 c 0 (length c / 4))) (length c / 4) None = rw q at d.found in
     record {
       even = omega arith;
       some = omega arith;
       few = few;
-      ratio = (ratio_is a b).0 (sym tested ∙ not-false t e);
       distinct = λ i j l m e. g j (rw (length_holes 2 c 0 (length c / 4)) at m) (record { other = i; lower = l; place = e });
       small = small;
     }

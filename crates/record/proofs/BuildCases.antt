@@ -34,8 +34,8 @@ unfolding tree_on
 length_nodes w n = simp (length-map, length_from) refl
 
 -- the lengths of what stands before the pairs
-head-length : {c : List ℕ} {a b n : ℕ} → Buildable c a b n → length (head c a b n) ≡ 4 + 4 * n
-head-length {c} {n} f = omega (arith, length-append (bytes 2 n) c, length-bytes 2 n, f.even)
+head-length : {c : List ℕ} {n : ℕ} (a b : ℕ) → Buildable c n → length (head c a b n) ≡ 4 + 4 * n
+head-length {c} {n} a b f = omega (arith, length-append (bytes 2 n) c, length-bytes 2 n, f.even)
 
 nodes_length : (w : List ℕ) (n : ℕ) → length (node_bytes w n) ≡ 2 + 4 * nodes_of n
 nodes_length w n =
@@ -48,26 +48,26 @@ nodes_length w n =
       length_nodes w n,
     )
 
-front_length : {c : List ℕ} {a b n : ℕ} (m : ℕ) (w : List ℕ) → Buildable c a b n → length (front c a b n m w) ≡ 6 + 12 * n
-front_length {c} {a} {b} {n} m w f =
+front_length : {c : List ℕ} {n : ℕ} (a b m : ℕ) (w : List ℕ) → Buildable c n → length (front c a b n m w) ≡ 6 + 12 * n
+front_length {c} {n} a b m w f =
     omega (
       arith,
       length-append (head c a b n ++ node_bytes w n) (bytes 4 m),
       length-append (head c a b n) (node_bytes w n),
-      head-length f,
+      head-length a b f,
       nodes_length w n,
       length-bytes 4 m,
       f.some,
     )
 
-pub front_done : {c w out p q v : List ℕ} {a b n : ℕ} (m : ℕ) → FrontFits c a b n w out → Written out p 0 (head c a b n)
+pub front_done : {c w out p q v : List ℕ} {a b n : ℕ} (m : ℕ) → FrontFits c n w out → Written out p 0 (head c a b n)
     → Written p q (4 + 4 * n) (node_bytes w n) → Written q v (2 + 12 * n) (bytes 4 m) → Written out v 0 (front c a b n m w)
 front_done {c} {w} {a} {b} {n} m f h s t =
-    let one = written_more h s (omega (arith, head-length f.field)) in
-    written_more one t (omega (arith, head-length f.field, nodes_length w n, length-append (head c a b n) (node_bytes w n), f.field.some))
+    let one = written_more h s (omega (arith, head-length a b f.field)) in
+    written_more one t (omega (arith, head-length a b f.field, nodes_length w n, length-append (head c a b n) (node_bytes w n), f.field.some))
 
 -- the whole record is the front and then the pairs
-module _ {c w : List ℕ} {a b n m : ℕ} (f : Buildable c a b n) (d : Drawn c a b n w) (count : m ≡ length (pairs_on w 2 a b n)) where
+module _ {c w : List ℕ} {a b n m : ℕ} (f : Buildable c n) (d : Drawn c a b n w) (count : m ≡ length (pairs_on w 2 a b n)) where
   record_is : written (built a b (holes_at 2 c 0 n)) ≡ front c a b n m w ++ joined two_numbers (pairs_on w 2 a b n)
   unfolding written built
   record_is =
@@ -78,4 +78,4 @@ module _ {c w : List ℕ} {a b n m : ℕ} (f : Buildable c a b n) (d : Drawn c a
       → Written p v 0 (front c a b n m w) → Written out v 0 (written (built a b (holes_at 2 c 0 n)))
   record_done l room s =
       let there = listed_there l (omega (arith, l.next, l.len)) in
-      rw record_is (written_before there s (omega (arith, front_length m w f)))
+      rw record_is (written_before there s (omega (arith, front_length a b m w f)))

@@ -29,7 +29,7 @@ use Rattle.tree.proofs.Views.{on_holes, same-tree}
 use Rattle.pairs.specs.Listing.{far_on, long_on, grown_on, Shapes}
 use Rattle.record.specs.Building.{Buildable, Sized, Drawn}
 
-module _ {c : List ℕ} {a b n : ℕ} (f : Buildable c a b n) (w : List ℕ) (grid : Grid w) (nodes : (tree_on w n).nodes ≡ entries (tree_of (holes_at 2 c 0 n))) where
+module _ {c : List ℕ} {n : ℕ} (f : Buildable c n) (w : List ℕ) (grid : Grid w) (nodes : (tree_on w n).nodes ≡ entries (tree_of (holes_at 2 c 0 n))) where
   some_holes : 1 ≤ length (holes_at 2 c 0 n)
   some_holes = rw (length_holes 2 c 0 n) f.some
 
@@ -56,7 +56,7 @@ module _ {c : List ℕ} {a b n : ℕ} (f : Buildable c a b n) (w : List ℕ) (gr
   tree_is : grown_on w n ≡ tree_of (holes_at 2 c 0 n)
   tree_is = grow_back (tree_on w n) (tree_of (holes_at 2 c 0 n)) met all_leaves nodes few_nodes
 
-  module _ (boxes : (s : Tree) → Sub s (tree_of (holes_at 2 c 0 n)) → box_on w 2 (number s) ≡ box_at (holes_at 2 c 0 n) (under s)) (shapes : Shapes w 2 a b n) where
+  module _ {a b : ℕ} (boxes : (s : Tree) → Sub s (tree_of (holes_at 2 c 0 n)) → box_on w 2 (number s) ≡ box_at (holes_at 2 c 0 n) (under s)) (shapes : Shapes w 2 a b n) where
     far_is : (A B : Tree) → Sub A (tree_of (holes_at 2 c 0 n)) → Sub B (tree_of (holes_at 2 c 0 n)) → far_on w 2 a b A B ≡ far (holes_at 2 c 0 n) a b A B
     unfolding far_on far
     far_is A B p q = rw (boxes A p, boxes B q)
@@ -82,7 +82,6 @@ module _ {c : List ℕ} {a b n : ℕ} (f : Buildable c a b n) (w : List ℕ) (gr
           listable = record {
             stands = stands;
             axes = record { some = omega arith; few = omega arith };
-            ratio = f.ratio;
             shapes = shapes;
             met = rw tree_is met;
             regular = rw tree_is regular-on;
@@ -92,13 +91,13 @@ module _ {c : List ℕ} {a b n : ℕ} (f : Buildable c a b n) (w : List ℕ) (gr
         }
 
 -- summed up and with its shapes written: the tree is still there, and each node's box is that of its holes
-module _ {c : List ℕ} {a b n : ℕ} (f : Buildable c a b n) {old mid : List ℕ} (grid : Grid old)
+module _ {c : List ℕ} {n : ℕ} (f : Buildable c n) {old mid : List ℕ} (grid : Grid old)
     (g : Grown (holes_at 2 c 0 n) n old mid) where
   pub planted : Stands mid n
   planted = stands f mid (omega (arith, g.len)) g.nodes
 
-  pub shaped : {last : List ℕ} → Sized c a b n mid last → Drawn c a b n last
-  shaped {last} z =
+  pub shaped : {a b : ℕ} {last : List ℕ} → Sized c a b n mid last → Drawn c a b n last
+  shaped {last = last} z =
       let s = z.summed in
       let p = z.shapes in
       let keeps : (i : ℕ) → i < 2_048 * HOLES → word last i ≡ word mid i =

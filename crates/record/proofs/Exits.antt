@@ -2,21 +2,21 @@
 -- refusal from being due. Assumes nothing.
 use mathlib.Core.Path.{◌≡◌, refl, sym, ◌∙◌}
 use mathlib.Core.Logic.{◌↔◌}
-use mathlib.Core.Bool.{Bool, true, false, not}
 use mathlib.Core.List.{List}
 use Prim.Native.Nat.{ℕ, ◌+◌, ◌*◌, ◌-◌, ◌/◌, ◌≤◌, ◌<◌}
 use native.Mathlib.Omega.{arith}
 use lib.ListN.{length, get_or, drop}
-use borrow.Author.Tests.{not-true, not-false}
 use Rattle.words.specs.Words.{Read}
-use Rattle.paper.specs.Field.{Ratio, ratio_ok}
+use Rattle.paper.specs.Field.{Ratio as InRange}
 use Rattle.paper.specs.Record.{holes_in, nodes_in, pairs_in, nodes_of}
 use Rattle.paper.specs.Refusals.{refused}
-use Rattle.paper.proofs.ListLaws.{both}
+use Rattle.paper.specs.Answers.{refuses}
+use Rattle.paper.specs.declared.Refusal.{Refusal}
+use Rattle.paper.specs.declared.Refusal.TheVariants as R
 use Rattle.theory.specs.Conditions.{First, here, later}
 use Rattle.theory.specs.Conditions as due
-use Rattle.theory.proofs.Statements.{ratio_is}
 use Rattle.theory.proofs.Orders.{refused_is, cutting_agrees}
+use Rattle.field.specs.declared.ratio.Ratio.{Ratio}
 use Rattle.record.specs.Cutting.{Begun, cut_answer}
 
 module _ (r : List ℕ) where
@@ -35,31 +35,33 @@ module _ (r : List ℕ) where
   passed_head : 4 ≤ length r → Passed 1
   passed_head l k x f = (cut-refuses k x).1 (later (λ y d. omega (arith, d.0)) f)
 
-  passed_ratio : 4 ≤ length r → Ratio (get_or r 0 0) (get_or r 1 0) → Passed 2
+  pub right_ratio : (ratio : Ratio) → (ratio.a ≡ get_or r 0 0) × (ratio.b ≡ get_or r 1 0) → InRange (get_or r 0 0) (get_or r 1 0)
+  right_ratio ratio same = rw (same.0, same.1) at ratio.in_range
+
+  passed_ratio : 4 ≤ length r → InRange (get_or r 0 0) (get_or r 1 0) → Passed 2
   passed_ratio l ratio k x f = passed_head l k x (later (λ y d. d.0 ratio) f)
 
   -- the ratio
-  module _ {a b : ℕ} {t : Bool} (l : 4 ≤ length r) (a_is : a ≡ get_or r 0 0) (b_is : b ≡ get_or r 1 0) (t-is : t ≡ ratio_ok a b) where
-    pub wrong-ratio : not t ≡ true → cut_answer r ≡ refused 4 0
-    wrong-ratio e = passed_head l _ _ (here refl (λ ok. both ((ratio_is a b).1 (rw (a_is, b_is) ok)) (sym t-is ∙ not-true t e), refl))
+  pub wrong-ratio : {x : Refusal} → 4 ≤ length r → (InRange (get_or r 0 0) (get_or r 1 0) → ⊥) × (x ≡ R.Ratio) → cut_answer r ≡ refuses x
+  wrong-ratio l f = rw f.1 (passed_head l _ _ (here refl (f.0, refl)))
 
-    -- the hole count
-    module _ {n : ℕ} (e : not t ≡ false) (read : Read 2 r 2 n) where
-      right-ratio : Ratio (get_or r 0 0) (get_or r 1 0)
-      right-ratio = rw (← a_is, ← b_is) ((ratio_is a b).0 (sym t-is ∙ not-false t e))
+  -- the hole count
+  module _ {n : ℕ} (l : 4 ≤ length r) (read : Read 2 r 2 n) where
+    pub no_holes : InRange (get_or r 0 0) (get_or r 1 0) → n ≡ 0 → cut_answer r ≡ refused 2 0
+    no_holes ratio z = passed_ratio l ratio _ _ (here refl (omega arith, refl))
 
-      pub no_holes : n ≡ 0 → cut_answer r ≡ refused 2 0
-      no_holes z = passed_ratio l right-ratio _ _ (here refl (omega arith, refl))
+    pub many-holes : InRange (get_or r 0 0) (get_or r 1 0) → 1_024 < n → cut_answer r ≡ refused 3 n
+    many-holes ratio m = passed_ratio l ratio _ _ (later (λ y d. omega (arith, d.0)) (here refl (omega arith, read.is)))
 
-      pub many-holes : 1_024 < n → cut_answer r ≡ refused 3 n
-      many-holes m = passed_ratio l right-ratio _ _ (later (λ y d. omega (arith, d.0)) (here refl (omega arith, read.is)))
+    pub begins : {ratio : Ratio} → (ratio.a ≡ get_or r 0 0) × (ratio.b ≡ get_or r 1 0) → (n ≡ 0 → ⊥) → n ≤ 1_024 → Begun r ratio n
+    begins same z m = record { head = l; a_is = same.0; b_is = same.1; n_is = read.is; some = omega arith; few = m }
 
-      pub begins : (n ≡ 0 → ⊥) → n ≤ 1_024 → Begun r a b n
-      begins z m = record { head = l; a_is = a_is; b_is = b_is; ratio = right-ratio; n_is = read.is; some = omega arith; few = m }
+  module _ {ratio : Ratio} {n : ℕ} (begun : Begun r ratio n) where
+    in_range : InRange (get_or r 0 0) (get_or r 1 0)
+    in_range = right_ratio ratio (begun.a_is, begun.b_is)
 
-  module _ {a b n : ℕ} (begun : Begun r a b n) where
     passed-holes : Passed 4
-    passed-holes k x f = passed_ratio begun.head begun.ratio k x (later (λ y d. omega (arith, d.0)) (later (λ y d. omega (arith, d.0)) f))
+    passed-holes k x f = passed_ratio begun.head in_range k x (later (λ y d. omega (arith, d.0)) (later (λ y d. omega (arith, d.0)) f))
 
     pub short-nodes : length r < 6 + 4 * n → cut_answer r ≡ refused 8 (6 + 4 * n)
     short-nodes l = passed-holes _ _ (here refl (omega arith, omega arith))

@@ -3,7 +3,6 @@ use mathlib.Core.Path.{◌≡◌, refl, sym, ◌∙◌}
 use mathlib.Core.List.{List}
 use Prim.Native.Nat.{ℕ, ◌+◌, ◌*◌, ◌<◌, ◌≤◌}
 use lib.ListN.{length}
-use Rattle.paper.specs.Field.{Ratio}
 use Rattle.paper.specs.Record.{holes_in, pairs_in, two_numbers_at, view_of}
 use Rattle.paper.specs.declared.Refusal.TheVariants as R
 use Rattle.theory.proofs.Checker.{record_is, taken_is}
@@ -22,15 +21,12 @@ use Rattle.record.proofs.Answers.{framed, content_refused}
 use Rattle.record.proofs.PairsMeant.{Listed, standing, counted, due-pair, ready, due-cover, meant, stands-still, filled}
 
 module _ {r w ps : List ℕ} {p : Parts} (k : PartsOf r p) (m : Measured r w) (e : ps ≡ pairs_slice r) where
-  listed : Listed r ps p.a p.b
+  listed : Listed r ps p.ratio.a p.ratio.b
   unfolding view_of
   listed = rw e (record { pairs = pairs_said r; pair = pair_said r; a_is = sym k.a_is; b_is = sym k.b_is })
 
   few : p.m ≤ 523_776
   few = (counts_fit k).pairs
-
-  pub ratio : Ratio p.a p.b
-  ratio = rw (k.a_is, k.b_is) k.framing.ratio
 
   pub stood : Stands w p.n
   stood = rw k.n_is (standing m k.framing.some k.framing.few)
@@ -43,18 +39,18 @@ module _ {r w ps : List ℕ} {p : Parts} (k : PartsOf r p) (m : Measured r w) (e
   refused f = content_refused r (length w) (framed r (length w) k.framing m.grid) f
 
   -- 13
-  pub is_pair : {f : Option ℕ} {i : ℕ} → Finds (λ j. PairOn w 2 p.a p.b p.n (two_numbers_at ps (4 * j)) → ⊥) p.m f → f ≡ Some i
+  pub is_pair : {f : Option ℕ} {i : ℕ} → Finds (λ j. PairOn w 2 p.ratio.a p.ratio.b p.n (two_numbers_at ps (4 * j)) → ⊥) p.m f → f ≡ Some i
       → Refusing r w w (R.Pair i)
   is_pair {i} d q =
-      let t : Finds (λ j. PairOn w 2 p.a p.b p.n (two_numbers_at ps (4 * j)) → ⊥) p.m (Some i) = rw q at d in
+      let t : Finds (λ j. PairOn w 2 p.ratio.a p.ratio.b p.n (two_numbers_at ps (4 * j)) → ⊥) p.m (Some i) = rw q at d in
       record { len = refl; refused = refused (due-pair m listed (rw (k.n_is, k.m_is) at t)) }
 
   -- from here on no pair is bad
-  module _ {f : Option ℕ} (d : Finds (λ j. PairOn w 2 p.a p.b p.n (two_numbers_at ps (4 * j)) → ⊥) p.m f) (q : f ≡ None)
+  module _ {f : Option ℕ} (d : Finds (λ j. PairOn w 2 p.ratio.a p.ratio.b p.n (two_numbers_at ps (4 * j)) → ⊥) p.m f) (q : f ≡ None)
       {last : List ℕ} (l : Ranked p.n w last) where
-    good : (j : ℕ) → j < pairs_in r → (PairOn w 2 p.a p.b (holes_in r) (two_numbers_at ps (4 * j)) → ⊥) → ⊥
+    good : (j : ℕ) → j < pairs_in r → (PairOn w 2 p.ratio.a p.ratio.b (holes_in r) (two_numbers_at ps (4 * j)) → ⊥) → ⊥
     good =
-        let t : Finds (λ j. PairOn w 2 p.a p.b p.n (two_numbers_at ps (4 * j)) → ⊥) p.m None = rw q at d in
+        let t : Finds (λ j. PairOn w 2 p.ratio.a p.ratio.b p.n (two_numbers_at ps (4 * j)) → ⊥) p.m None = rw q at d in
         rw (k.n_is, k.m_is) at t
 
     ranked : Ranked (holes_in r) w last
@@ -63,7 +59,7 @@ module _ {r w ps : List ℕ} {p : Parts} (k : PartsOf r p) (m : Measured r w) (e
     pub all-ready : Ready last ps p.n p.m
     all-ready =
         rw (k.n_is, k.m_is)
-        (ready m listed good k.framing.some k.framing.few ranked ratio.a_low (rw e (pairs-length r k.framing)) (rw k.m_is at few))
+        (ready m listed good k.framing.some k.framing.few ranked p.ratio.in_range.a_low (rw e (pairs-length r k.framing)) (rw k.m_is at few))
 
     -- 14
     module _ {end : List ℕ} {t : Option (ℕ × ℕ)} (g : Covering ps p.n p.m last end t) where

@@ -8,16 +8,21 @@ use lib.ListN.{length, length-append}
 use Rattle.words.specs.Words.{bytes, Written}
 use Rattle.words.proofs.Laws.{length-bytes, written_more}
 use Rattle.slate.specs.Columns.{FIRST, SECOND}
-use Rattle.slate.specs.Slate.{cell, Held}
+use Rattle.slate.specs.Slate.{cell}
 use Rattle.paper.specs.Lists.{joined, from}
+use Rattle.paper.specs.Field.{Ratio}
 use Rattle.paper.specs.Record.{two_numbers, nodes_of}
+use Rattle.tree.specs.Nodes.{numbers, IsNode}
 use Rattle.tree.specs.Standing.{tree_on}
-use Rattle.record.specs.Building.{HeadFits, head, node_bytes}
+use Rattle.tree.specs.declared.Node.{Node}
+use Rattle.tree.specs.declared.Node.TheVariants.{Leaf, Fork}
+use Rattle.record.specs.Building.{head, node_bytes}
 
 -- a node's two numbers
-pub entry_done : (k : ℕ) {w a c : List ℕ} {at x y : ℕ} → Held w FIRST k x → Held w SECOND k y → Written a c at (two_numbers (x, y))
-    → Written a c at (two_numbers (cell w FIRST k, cell w SECOND k))
-entry_done k p q t = rw (← p.is, ← q.is) t
+pub entry_done : (k : Node) (one two : ℕ) {a c : List ℕ} {at : ℕ} {p : ℕ × ℕ} → IsNode one two k → p ≡ numbers k → Written a c at (two_numbers p)
+    → Written a c at (two_numbers (one, two))
+entry_done (Leaf h) one two s e t = rw (s.0, ← s.1) (rw e at t)
+entry_done (Fork i j) one two s e t = rw (← s.1, ← s.2) (rw e at t)
 
 -- two bytes as one number
 two_bytes : (a b : ℕ) → a < 256 → b < 256 → bytes 2 (256 * a + b) ≡ a ∷ b ∷ []
@@ -27,10 +32,10 @@ two_bytes a b l m =
     let f : (256 * a + b) / 1 % 256 ≡ b = omega arith in
     ap₂ {C = List ℕ} (λ x y. x ∷ y ∷ []) e f
 
-pub head_done : {o p q r c : List ℕ} {a b n : ℕ} → HeadFits o c a b n → Written o p 0 (bytes 2 (256 * a + b)) → Written p q 2 (bytes 2 n)
+pub head_done : (n : ℕ) {o p q r c : List ℕ} {a b : ℕ} → Ratio a b → Written o p 0 (bytes 2 (256 * a + b)) → Written p q 2 (bytes 2 n)
     → Written q r 4 c → Written o r 0 (head c a b n)
-head_done {a} {b} {n} f s t u =
-    let e = two_bytes a b (omega (arith, f.ratio.a_high)) (omega (arith, f.ratio.b_high)) in
+head_done n {a = a} {b = b} ratio s t u =
+    let e = two_bytes a b (omega (arith, ratio.a_high)) (omega (arith, ratio.b_high)) in
     let first = rw e at s in
     written_more first (written_more t u (omega (arith, length-bytes 2 n))) refl
 

@@ -3,7 +3,7 @@ use Rattle.std.specs.Prelude.{◌≡◌, List, [], ◌∷◌, ◌++◌, map, ℕ
 use Rattle.words.specs.Words.{bytes, Bytes}
 use Rattle.slate.specs.Slate.{Grid}
 use Rattle.paper.specs.Lists.{joined}
-use Rattle.paper.specs.Field.{Ratio, most_holes, holes_at}
+use Rattle.paper.specs.Field.{most_holes, holes_at}
 use Rattle.paper.specs.Tree.{tree_of}
 use Rattle.paper.specs.Pairs.{pairs_of, numbers}
 use Rattle.paper.specs.Record.{entries, nodes_of, two_numbers}
@@ -12,12 +12,11 @@ use Rattle.tree.specs.Standing.{tree_on}
 use Rattle.tree.specs.Steps.{Summed}
 use Rattle.pairs.specs.Listing.{ShapesPut, Listable, pairs_on}
 
--- n holes at different places and a ratio in range
-pub record Buildable (c : List ℕ) (a b n : ℕ) : Type 0 where
+-- n holes at different places
+pub record Buildable (c : List ℕ) (n : ℕ) : Type 0 where
   pub even : length c ≡ 4 * n
   pub some : 1 ≤ n
   pub few : n ≤ most_holes
-  pub ratio : Ratio a b
   pub distinct : Distinct (holes_at 2 c 0 n)
   pub small : Bytes c
 
@@ -34,8 +33,7 @@ pub record Drawn (c : List ℕ) (a b n : ℕ) (w : List ℕ) : Type 0 where
   pub pairs : pairs_on w 2 a b n ≡ map numbers (pairs_of (holes_at 2 c 0 n) a b)
 
 -- room for the ratio, the hole count and the holes; for the node count and the nodes
-pub record HeadFits (out c : List ℕ) (a b n : ℕ) : Type 0 where
-  pub ratio : Ratio a b
+pub record HeadFits (out c : List ℕ) (n : ℕ) : Type 0 where
   pub even : length c ≡ 4 * n
   pub few : n ≤ most_holes
   pub room : 4 + 4 * n ≤ length out
@@ -58,7 +56,7 @@ node_bytes w n = bytes 2 (nodes_of n) ++ joined two_numbers (tree_on w n).nodes
 abbrev pub front : List ℕ → ℕ → ℕ → ℕ → ℕ → List ℕ → List ℕ
 front c a b n m w = head c a b n ++ node_bytes w n ++ bytes 4 m
 
-pub record FrontFits (c : List ℕ) (a b n : ℕ) (w out : List ℕ) : Type 0 where
-  pub field : Buildable c a b n
+pub record FrontFits (c : List ℕ) (n : ℕ) (w out : List ℕ) : Type 0 where
+  pub field : Buildable c n
   pub grid : Grid w
   pub room : 6 + 12 * n ≤ length out

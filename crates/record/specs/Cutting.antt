@@ -1,29 +1,29 @@
 -- What `cut` says of a record's bytes: the first of their refusals, or the parts. Assumes nothing.
 use Rattle.std.specs.Prelude.{◌≡◌, List, ℕ, ◌*◌, ◌-◌, ◌/◌, ◌≤◌, length, get_or, take, drop, Result, Ok, Err}
-use Rattle.paper.specs.Field.{Ratio, most_holes}
+use Rattle.paper.specs.Field.{Ratio as InRange, most_holes}
 use Rattle.paper.specs.Record.{holes_start, nodes_start, pairs_start, whole, holes_in, nodes_in, pairs_in, nodes_of}
 use Rattle.paper.specs.Refusals.{Answer, given, in_order◌else◌, cutting}
 use Rattle.paper.specs.Answers.{refuses}
 use Rattle.paper.specs.declared.Refusal.{Refusal}
+use Rattle.field.specs.declared.ratio.Ratio.{Ratio}
 use Rattle.record.specs.declared.Parts.{Parts}
 use Rattle.record.specs.declared.Section.{Section}
 use Rattle.record.specs.declared.Section.TheVariants as S
 
 -- the bytes are a record's: the ratio and the counts are right, and they end with the last pair
 pub record Framing (r : List ℕ) : Type 0 where
-  pub ratio : Ratio (get_or r 0 0) (get_or r 1 0)
+  pub ratio : InRange (get_or r 0 0) (get_or r 1 0)
   pub some : 1 ≤ holes_in r
   pub few : holes_in r ≤ most_holes
   pub nodes_right : nodes_in r ≡ nodes_of (holes_in r)
   pub pairs_right : pairs_in r ≤ holes_in r * (holes_in r - 1) / 2
   pub end : length r ≡ whole (holes_in r) (pairs_in r)
 
--- a, b and n are the ratio and the hole count that the first four bytes say, and are in range
-pub record Begun (r : List ℕ) (a b n : ℕ) : Type 0 where
+-- these are the ratio and the hole count that the first four bytes say, and the count is in range
+pub record Begun (r : List ℕ) (ratio : Ratio) (n : ℕ) : Type 0 where
   pub head : holes_start ≤ length r
-  pub a_is : a ≡ get_or r 0 0
-  pub b_is : b ≡ get_or r 1 0
-  pub ratio : Ratio (get_or r 0 0) (get_or r 1 0)
+  pub a_is : ratio.a ≡ get_or r 0 0
+  pub b_is : ratio.b ≡ get_or r 1 0
   pub n_is : n ≡ holes_in r
   pub some : 1 ≤ n
   pub few : n ≤ most_holes
@@ -31,8 +31,8 @@ pub record Begun (r : List ℕ) (a b n : ℕ) : Type 0 where
 -- the ratio, the counts, and where the parts start
 pub record PartsOf (r : List ℕ) (p : Parts) : Type 0 where
   pub framing : Framing r
-  pub a_is : p.a ≡ get_or r 0 0
-  pub b_is : p.b ≡ get_or r 1 0
+  pub a_is : p.ratio.a ≡ get_or r 0 0
+  pub b_is : p.ratio.b ≡ get_or r 1 0
   pub n_is : p.n ≡ holes_in r
   pub m_is : p.m ≡ pairs_in r
   pub holes_is : p.holes ≡ holes_start

@@ -5,7 +5,6 @@
 ghost use Rattle.std.specs.Prelude.{◌≡◌, ◌+◌, ◌*◌, ◌-◌, ◌/◌, ◌<◌, ◌≤◌, length};
 ghost use Rattle.slate.specs.Columns.{FIRST, SECOND};
 ghost use Rattle.slate.specs.Slate.{cell, Grid};
-ghost use Rattle.paper.specs.Field.{Ratio, ratio_ok};
 ghost use Rattle.paper.specs.Record.{two_numbers};
 ghost use Rattle.paper.specs.Refusals.{build};
 ghost use Rattle.paper.specs.Answers.{PartAt, Builds, Checks, HandsBack};
@@ -19,13 +18,14 @@ ghost use Rattle.record.specs.Building.{HeadFits, NodesFit, head, node_bytes, fr
 ghost use Rattle.record.specs.Outputs.{Blank, Made};
 ghost use Rattle.field.specs.Boxes.{HolesIn};
 
+use field::Ratio;
 use paper::Refusal;
 
-// A record's ratio, its counts, and where its parts start.
+// A record's ratio, its counts, and where its parts start. Places and no slices: C is given places, and of a struct that holds references clauses would
+// have to say at which moment. So the record's bytes stand beside it in each call.
 #[derive(Clone, Copy)]
 pub struct Parts {
-    pub a: usize,
-    pub b: usize,
+    pub ratio: Ratio,
     pub n: usize,
     pub m: usize,
     pub holes: usize,
@@ -48,13 +48,6 @@ pub enum Section {
     Pairs,
 }
 
-// Whether the ratio a/b is in range.
-fn ratio_ok(a: usize, b: usize) -> bool
-    ensures { result ≡ ratio_ok a b }
-{
-    1 <= a && a <= 64 && 1 <= b && b <= 8
-}
-
 // Cuts a record into its parts: the ratio, the counts and the length are tested, in document 01's order.
 pub fn cut(bytes: &[u8]) -> Result<Parts, Refusal>
     ensures { CutSays bytes.now result }
@@ -62,11 +55,7 @@ pub fn cut(bytes: &[u8]) -> Result<Parts, Refusal>
     if bytes.len() < 4 {
         return Err(Refusal::Short(4));
     }
-    let a = bytes[0] as usize;
-    let b = bytes[1] as usize;
-    if !ratio_ok(a, b) {
-        return Err(Refusal::Ratio);
-    }
+    let ratio = Ratio::new(bytes[0] as usize, bytes[1] as usize)?;
     let n = words::get::<2>(bytes, 2);
     if n == 0 {
         return Err(Refusal::None);
@@ -74,12 +63,12 @@ pub fn cut(bytes: &[u8]) -> Result<Parts, Refusal>
     if 1024 < n {
         return Err(Refusal::Many(n as u64));
     }
-    cut_parts(bytes, a, b, n)
+    cut_parts(bytes, ratio, n)
 }
 
 // The same from the node count on.
-fn cut_parts(bytes: &[u8], a: usize, b: usize, n: usize) -> Result<Parts, Refusal>
-    requires { Begun bytes.now a b n }
+fn cut_parts(bytes: &[u8], ratio: Ratio, n: usize) -> Result<Parts, Refusal>
+    requires { Begun bytes.now ratio n }
     ensures { CutSays bytes.now result }
 {
     let len = bytes.len();
@@ -105,8 +94,7 @@ fn cut_parts(bytes: &[u8], a: usize, b: usize, n: usize) -> Result<Parts, Refusa
         return Err(Refusal::Over(len as u64));
     }
     Ok(Parts {
-        a,
-        b,
+        ratio,
         n,
         m,
         holes: 4,
@@ -197,7 +185,7 @@ fn inspect_pairs(bytes: &[u8], work: &mut [u8], p: Parts) -> Result<Parts, Refus
     let n = p.n;
     let m = p.m;
     let list = p.slice(bytes, Section::Pairs);
-    if let Some(k) = pairs::check_pairs(work, list, 2, p.a, p.b, n, m) {
+    if let Some(k) = pairs::check_pairs(work, list, 2, p.ratio, n, m) {
         return Err(Refusal::Pair(k as u64));
     }
     tree::rank(work, n);
@@ -213,9 +201,7 @@ fn inspect_pairs(bytes: &[u8], work: &mut [u8], p: Parts) -> Result<Parts, Refus
 fn taken_parts(bytes: &[u8], work: &mut [u8]) -> Result<Parts, Refusal>
     ensures { TakeSays bytes.now work.old work.new result }
 {
-    let found = inspect(bytes, work);
-    slate::wipe(work);
-    found
+    slate::lend(work, &mut |work| inspect(bytes, work))
 }
 
 // Takes a record exactly when it meets document 01's rules, and gives its holes and its pairs.
@@ -244,11 +230,11 @@ pub fn section_of<'a>(bytes: &'a [u8], work: &mut [u8], section: Section) -> &'a
 }
 
 // Writes the ratio, the hole count and the holes.
-fn put_head(out: &mut [u8], holes: &[u8], a: usize, b: usize, n: usize)
-    requires { HeadFits out.old holes.now a b n }
-    ensures { Written out.old out.new 0 (head holes.now a b n) }
+fn put_head(out: &mut [u8], holes: &[u8], ratio: Ratio, n: usize)
+    requires { HeadFits out.old holes.now n }
+    ensures { Written out.old out.new 0 (head holes.now ratio.a ratio.b n) }
 {
-    words::put::<2>(out, 0, 256 * a + b);
+    words::put::<2>(out, 0, 256 * ratio.a + ratio.b);
     words::put::<2>(out, 2, n);
     words::copy(out, 4, holes);
 }
@@ -259,11 +245,7 @@ fn put_entry(out: &mut [u8], work: &[u8], at: usize, k: usize)
     requires grid { Grid work.now × (k < 2048) }
     ensures { Written out.old out.new at (two_numbers (cell work.now FIRST k, cell work.now SECOND k)) }
 {
-    let two = (
-        slate::cell(work, slate::FIRST, k),
-        slate::cell(work, slate::SECOND, k),
-    );
-    paper::put_two_numbers(out, at, two);
+    paper::put_two_numbers(out, at, tree::node_at(work, k).into());
 }
 
 // Writes the nodes, and the node count before them.
@@ -293,12 +275,12 @@ fn put_count(out: &mut [u8], n: usize, end: usize)
 }
 
 // Writes all that stands before the pairs of a record that is `end` bytes long: the ratio, the holes, the nodes, and the pair count.
-fn put_front(holes: &[u8], a: usize, b: usize, n: usize, end: usize, work: &[u8], out: &mut [u8])
-    requires front_fits { FrontFits holes.now a b n work.now out.old }
+fn put_front(holes: &[u8], ratio: Ratio, n: usize, end: usize, work: &[u8], out: &mut [u8])
+    requires front_fits { FrontFits holes.now n work.now out.old }
     requires n_bound { 6 + 12 * n ≤ end }
-    ensures { Written out.old out.new 0 (front holes.now a b n ((end - (6 + 12 * n)) / 4) work.now) }
+    ensures { Written out.old out.new 0 (front holes.now ratio.a ratio.b n ((end - (6 + 12 * n)) / 4) work.now) }
 {
-    put_head(out, holes, a, b, n);
+    put_head(out, holes, ratio, n);
     put_nodes(out, work, n);
     put_count(out, n, end);
 }
@@ -307,57 +289,55 @@ fn put_front(holes: &[u8], a: usize, b: usize, n: usize, end: usize, work: &[u8]
 // and where the output is shorter it is zeroed again.
 fn write_record(
     holes: &[u8],
-    a: usize,
-    b: usize,
+    ratio: Ratio,
     n: usize,
     work: &[u8],
     out: &mut [u8],
 ) -> Result<u64, Refusal>
-    requires buildable { Buildable holes.now a b n }
-    requires drawn { Drawn holes.now a b n work.now }
+    requires buildable { Buildable holes.now n }
+    requires drawn { Drawn holes.now ratio.a ratio.b n work.now }
     requires blank { Blank out.old }
-    ensures { Made (build holes.now a b) (length work.now) out.old out.new result }
+    ensures { Made (build holes.now ratio.a ratio.b) (length work.now) out.old out.new result }
 {
-    let end = pairs::list_pairs(work, out, 2, a, b, n, 6 + 12 * n);
+    let end = pairs::list_pairs(work, out, 2, ratio, n, 6 + 12 * n);
     if out.len() < end {
         words::zero(out);
         return Err(Refusal::Room(end as u64));
     }
-    put_front(holes, a, b, n, end, work, out);
+    put_front(holes, ratio, n, end, work, out);
     Ok(end as u64)
 }
 
 // Sums the tree on the slate up, and puts what comparisons ask of each node beside it.
-fn size_up(work: &mut [u8], holes: &[u8], a: usize, b: usize, n: usize)
+fn size_up(work: &mut [u8], holes: &[u8], ratio: Ratio, n: usize)
     requires stands { Stands work.old n }
     requires holes_in { HolesIn holes.now 2 n }
-    requires ratio { Ratio a b }
-    ensures { Sized holes.now a b n work.old work.new }
+    ensures { Sized holes.now ratio.a ratio.b n work.old work.new }
 {
     tree::sum_up(work, holes, 2, n);
-    pairs::put_shapes(work, 2, a, b, n);
+    pairs::put_shapes(work, 2, ratio, n);
 }
 
 // Cuts the field into its tree, sums it up on the slate, and writes its record.
 fn fill(
     holes: &[u8],
-    a: usize,
-    b: usize,
+    ratio: Ratio,
     n: usize,
     work: &mut [u8],
     out: &mut [u8],
 ) -> Result<u64, Refusal>
-    requires buildable { Buildable holes.now a b n }
+    requires buildable { Buildable holes.now n }
     requires grid { Grid work.old }
     requires blank { Blank out.old }
-    ensures { Made (build holes.now a b) (length work.old) out.old out.new result }
+    ensures { Made (build holes.now ratio.a ratio.b) (length work.old) out.old out.new result }
 {
     tree::plant(work, holes, 2, n);
-    size_up(work, holes, a, b, n);
-    write_record(holes, a, b, n, work, out)
+    size_up(work, holes, ratio, n);
+    write_record(holes, ratio, n, work, out)
 }
 
-// Builds into an output that is all zero: the refusals in document 01's order, then the record.
+// Builds into an output that is all zero: the refusals in document 01's order, then the record. The tests of the area and of the count stand in `inspect` and
+// in `cut` too: as functions with `?` they are no plainer, since each return after them has to say again what they found.
 fn build_clean(
     holes: &[u8],
     a: u64,
@@ -382,13 +362,11 @@ fn build_clean(
     if 1024 < n {
         return Err(Refusal::Many(n as u64));
     }
-    if !ratio_ok(a as usize, b as usize) {
-        return Err(Refusal::Ratio);
-    }
+    let ratio = Ratio::new(a as usize, b as usize)?;
     if let Some(i) = field::repeated(work, holes, 2, n) {
         return Err(Refusal::Twice(i as u64));
     }
-    fill(holes, a as usize, b as usize, n, work, out)
+    fill(holes, ratio, n, work, out)
 }
 
 // Builds the record of a field at the ratio a/b: the holes, their tree and its pairs, followed by zeros; or only zeros where it is refused.
@@ -396,7 +374,5 @@ pub fn build(holes: &[u8], a: u64, b: u64, work: &mut [u8], out: &mut [u8]) -> R
     ensures { Builds holes.now a b result work.old work.new out.old out.new }
 {
     words::zero(out);
-    let made = build_clean(holes, a, b, work, out);
-    slate::wipe(work);
-    made
+    slate::lend(work, &mut |work| build_clean(holes, a, b, work, out))
 }
