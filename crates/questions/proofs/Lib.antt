@@ -1,4 +1,4 @@
-mod Keys
+mod Nearer
 mod Meaning
 mod Replies
 pub mod Names

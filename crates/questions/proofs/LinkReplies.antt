@@ -62,11 +62,11 @@ module _ {bytes w : List ℕ} {p : Parts} (k : Known bytes w p) where
   links_fit e l = record { there = pairs_there k e; room = l }
 
   module _ {out : List ℕ} (blank : Blank out) where
-    pub links-low : p.a ≤ 4 * p.b → Made (links bytes) (length w) out out (Err (R.Low (256 * p.a + p.b)))
+    pub links-low : p.ratio.a ≤ 4 * p.ratio.b → Made (links bytes) (length w) out out (Err (R.Low (256 * p.ratio.a + p.ratio.b)))
     unfolding links
-    links-low l = refused_blank _ blank (rw (k.taken, a_is k, b_is k) (stop _ (le-leb _ _ l) (R.Low (256 * p.a + p.b)) _))
+    links-low l = refused_blank _ blank (rw (k.taken, a_is k, b_is k) (stop _ (le-leb _ _ l) (R.Low (256 * p.ratio.a + p.ratio.b)) _))
 
-    module _ (high : 4 * p.b < p.a) where
+    module _ (high : 4 * p.ratio.b < p.ratio.a) where
       ratio-high : leb (view_of bytes).a (4 * (view_of bytes).b) ≡ false
       ratio-high = rw (a_is k, b_is k) (lt-leb _ _ high)
 

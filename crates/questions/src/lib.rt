@@ -10,10 +10,11 @@ ghost use Rattle.paper.specs.Questions.{closest, pitch, links};
 ghost use Rattle.paper.specs.Answers.{told, FindsClosest, TestsPitch, WritesLinks};
 ghost use Rattle.field.specs.Boxes.{NodeOn};
 ghost use Rattle.record.specs.Outputs.{Blank, Made};
-ghost use Rattle.questions.specs.Nearest.{no_key, KeyOf, PairLesser, PairThere, PairsThere, LeastKey, Wanted, NearestKey};
+ghost use Rattle.questions.specs.Nearest.{near_at, PairNearer, PairThere, PairsThere, NearestPair, Wanted, NearestHoles};
 ghost use Rattle.questions.specs.Asking.{Known, LooksOn, Looks};
 ghost use Rattle.questions.specs.Linking.{link_on, links_on, LinkFits, LinksFit};
 
+use field::Ratio;
 use paper::Refusal;
 use record::{Parts, Section};
 
@@ -24,8 +25,20 @@ pub struct Looked {
     pub closest: Result<(u64, u64, u64), Refusal>,
 }
 
-// The key of a pair that has more than one hole on a side: above every other.
-const NO_KEY: usize = 1152921504606846976;
+// Two holes and how far they are apart. The order is that in which one is nearer: by the squared distance, then by the first hole, then by the second.
+#[derive(Clone, Copy, PartialEq, Eq, PartialOrd, Ord)]
+struct Near {
+    far: usize,
+    first: usize,
+    second: usize,
+}
+
+// Farther apart than any two holes. Not None: an Option has None below every Some, and the hot walk would test for it at each pair.
+const FARTHEST: Near = Near {
+    far: usize::MAX,
+    first: 0,
+    second: 0,
+};
 
 // The link of nodes p and q: the lowest-numbered hole under each, smaller number first.
 fn link_of(work: &[u8], p: usize, q: usize) -> (usize, usize)
@@ -39,81 +52,77 @@ fn link_of(work: &[u8], p: usize, q: usize) -> (usize, usize)
     (i.min(j), i.max(j))
 }
 
-// The key of nodes p and q, of one hole each, for the squared distance far: it orders two holes by their distance, then by the first of them, then by
-// the second.
-fn key_of(work: &[u8], p: usize, q: usize, far: usize) -> usize
+// The two holes of nodes p and q, of one hole each, for the squared distance far.
+fn near_of(work: &[u8], p: usize, q: usize, far: usize) -> Near
     requires node_on { NodeOn work.now 2 p }
-    requires q_bound { (q < 2048) × (far < 51539607552) }
-    ensures { KeyOf work.now p q far result }
+    requires q_bound { q < 2048 }
+    ensures { result ≡ near_at work.now (p, q) far }
 {
-    let (i, j) = link_of(work, p, q);
-    1048576 * far + 1024 * i + j
+    let (first, second) = link_of(work, p, q);
+    Near { far, first, second }
 }
 
-// The lesser of a key and that of nodes p and q. Their low corners are looked at before their holes: most nodes are farther apart than the key says,
+// The nearer of two holes and those of nodes p and q. Their low corners are looked at before their holes: most nodes are farther apart than the least,
 // which a processor foresees, and whether they have one hole it would have to guess.
-fn lesser_near(work: &[u8], p: usize, q: usize, least: usize) -> usize
+fn nearer_nodes(work: &[u8], p: usize, q: usize, least: Near) -> Near
     requires node_on { NodeOn work.now 2 p }
-    requires q_bound { (q < 2048) × (least ≤ no_key) }
-    ensures { PairLesser work.now (p, q) least result }
+    requires q_bound { q < 2048 }
+    ensures { PairNearer work.now (p, q) least result }
 {
     let far = field::corners_apart(work, 2, p, q);
-    if least <= 1048576 * far {
+    if least.far < far {
         return least;
     }
-    if slate::cell(work, slate::HOLES, p) != 1 {
+    if slate::cell(work, slate::HOLES, p) != 1 || slate::cell(work, slate::HOLES, q) != 1 {
         return least;
     }
-    if slate::cell(work, slate::HOLES, q) != 1 {
-        return least;
-    }
-    least.min(key_of(work, p, q, far))
+    least.min(near_of(work, p, q, far))
 }
 
-// The lesser of a key and that of pair k. Many pairs are far apart on the first axis alone.
-fn lesser_key(work: &[u8], list: &[u8], k: usize, least: usize) -> usize
-    requires pair_there { PairThere work.now list.now k }
-    requires least_le_no_key { least ≤ no_key }
-    ensures { PairLesser work.now (two_numbers_at list.now (4 * k)) least result }
+// The nearer of two holes and those of pair k. Many pairs are far apart on the first axis alone.
+fn nearer_pair(work: &[u8], list: &[u8], k: usize, least: Near) -> Near
+    requires { PairThere work.now list.now k }
+    ensures { PairNearer work.now (two_numbers_at list.now (4 * k)) least result }
 {
     let (p, q) = paper::two_numbers_at(list, 4 * k);
-    if least <= 1048576 * field::squared(field::lows_apart(work, 0, p, q)) {
+    if least.far < field::squared(field::lows_apart(work, 0, p, q)) {
         return least;
     }
-    lesser_near(work, p, q, least)
+    nearer_nodes(work, p, q, least)
 }
 
-// The least key of m pairs.
-fn least_key(work: &[u8], list: &[u8], m: usize) -> usize
+// The nearest two holes of m pairs. The walk is a function of its own when it runs, for what it keeps then fits in registers.
+#[inline(never)]
+fn nearest_pair(work: &[u8], list: &[u8], m: usize) -> Near
     requires { PairsThere work.now list.now m }
-    ensures { LeastKey work.now list.now m result }
+    ensures { NearestPair work.now list.now m result }
 {
-    let mut least = NO_KEY;
+    // A `for`: a fold would need the same invariant, and the closure's states beside it.
+    let mut least = FARTHEST;
     for k in 0..m {
-        least = lesser_key(work, list, k, least);
+        least = nearer_pair(work, list, k, least);
     }
     least
 }
 
-// The key of the closest two holes of a record of two or more at a ratio above 2: the least of its pairs'.
-fn nearest_key(bytes: &[u8], work: &[u8], p: Parts) -> usize
+// The closest two holes of a record of two or more at a ratio above 2: the nearest of its pairs'.
+fn nearest(bytes: &[u8], work: &[u8], p: Parts) -> Near
     requires known { Known bytes.now work.now p }
     requires wanted { Wanted p }
-    ensures { NearestKey bytes.now result }
+    ensures { NearestHoles bytes.now result }
 {
     let list = p.slice(bytes, Section::Pairs);
-    least_key(work, list, p.m)
+    nearest_pair(work, list, p.m)
 }
 
 // Refusal 16: the ratio is too low.
-fn low(p: Parts) -> Refusal
-    requires { (p.a ≤ 64) × (p.b ≤ 8) }
-    ensures { result ≡ Refusal.Low (256 * p.a + p.b) }
+fn low(ratio: Ratio) -> Refusal
+    ensures { result ≡ Refusal.Low (256 * ratio.a + ratio.b) }
 {
-    Refusal::Low((256 * p.a + p.b) as u64)
+    Refusal::Low((256 * ratio.a + ratio.b) as u64)
 }
 
-// The closest pair of a taken record: refusals 15 and 16, then the holes and the squared distance that the least key says.
+// The closest pair of a taken record: refusals 15 and 16, then the nearest two holes and their squared distance.
 fn closest_of(bytes: &[u8], work: &[u8], p: Parts) -> Result<(u64, u64, u64), Refusal>
     requires { Known bytes.now work.now p }
     ensures { told result ≡ closest bytes.now (length work.now) }
@@ -121,15 +130,11 @@ fn closest_of(bytes: &[u8], work: &[u8], p: Parts) -> Result<(u64, u64, u64), Re
     if p.n == 1 {
         return Err(Refusal::Single);
     }
-    if p.a <= 2 * p.b {
-        return Err(low(p));
+    if p.ratio.a <= 2 * p.ratio.b {
+        return Err(low(p.ratio));
     }
-    let key = nearest_key(bytes, work, p);
-    Ok((
-        (key / 1024 % 1024) as u64,
-        (key % 1024) as u64,
-        (key / 1048576) as u64,
-    ))
+    let near = nearest(bytes, work, p);
+    Ok((near.first as u64, near.second as u64, near.far as u64))
 }
 
 // Both answers, before the slate is wiped.
@@ -152,9 +157,7 @@ fn look_on(bytes: &[u8], work: &mut [u8]) -> Looked
 pub fn look(bytes: &[u8], work: &mut [u8]) -> Looked
     ensures { Looks bytes.now result work.old work.new }
 {
-    let seen = look_on(bytes, work);
-    slate::wipe(work);
-    seen
+    slate::lend(work, &mut |work| look_on(bytes, work))
 }
 
 // The closest pair: two holes and their squared distance.
@@ -164,15 +167,11 @@ pub fn closest(bytes: &[u8], work: &mut [u8]) -> Result<(u64, u64, u64), Refusal
     look(bytes, work).closest
 }
 
-// Whether a squared distance is at least p². No squared distance is as much as 1,048,576².
+// Whether a squared distance is at least p². A p² that is no u64 is more than any.
 fn keeps_pitch(p: u64, far: u64) -> bool
-    requires { far < 1099511627776 }
     ensures { result ≡ leb (square p) far }
 {
-    if 1048576 <= p {
-        return false;
-    }
-    p * p <= far
+    p.checked_mul(p).is_some_and(|square| square <= far)
 }
 
 // The pitch test of a taken record: one hole keeps every pitch, and more keep it where the closest two do.
@@ -183,11 +182,8 @@ fn pitch_of(bytes: &[u8], work: &[u8], p: u64, parts: Parts) -> Result<bool, Ref
     if parts.n == 1 {
         return Ok(true);
     }
-    if parts.a <= 2 * parts.b {
-        return Err(low(parts));
-    }
-    let key = nearest_key(bytes, work, parts);
-    Ok(keeps_pitch(p, (key / 1048576) as u64))
+    let (_, _, far) = closest_of(bytes, work, parts)?;
+    Ok(keeps_pitch(p, far))
 }
 
 // The pitch test, before the slate is wiped.
@@ -202,9 +198,7 @@ fn pitch_on(bytes: &[u8], p: u64, work: &mut [u8]) -> Result<bool, Refusal>
 pub fn pitch(bytes: &[u8], p: u64, work: &mut [u8]) -> Result<bool, Refusal>
     ensures { TestsPitch bytes.now p result work.old work.new }
 {
-    let told = pitch_on(bytes, p, work);
-    slate::wipe(work);
-    told
+    slate::lend(work, &mut |work| pitch_on(bytes, p, work))
 }
 
 // Writes the link of pair k.
@@ -233,8 +227,8 @@ fn links_of(bytes: &[u8], work: &[u8], p: Parts, out: &mut [u8]) -> Result<u64, 
     requires blank { Blank out.old }
     ensures { Made (links bytes.now) (length work.now) out.old out.new result }
 {
-    if p.a <= 4 * p.b {
-        return Err(low(p));
+    if p.ratio.a <= 4 * p.ratio.b {
+        return Err(low(p.ratio));
     }
     let m = p.m;
     if out.len() < 4 * m {
@@ -259,7 +253,5 @@ pub fn links(bytes: &[u8], work: &mut [u8], out: &mut [u8]) -> Result<u64, Refus
     ensures { WritesLinks bytes.now result work.old work.new out.old out.new }
 {
     words::zero(out);
-    let made = links_on(bytes, work, out);
-    slate::wipe(work);
-    made
+    slate::lend(work, &mut |work| links_on(bytes, work, out))
 }

@@ -1,13 +1,16 @@
 -- One case for each return. Assumes nothing.
-use borrow.Author.Rules.{rules}
-use Rattle.questions.proofs.Replies.{pitch-single, pitch-low, is-pitch}
+use Rattle.std.proofs.Common.{rules}
+use Rattle.std.proofs.lemmas.Result.{err_from_is_err_and}
+use Rattle.questions.proofs.Replies.{pitch-single, is-pitch}
 use Rattle.questions.proofs.pitch_of.Goals as goal
 
 pub returns-then-parts-eq1 : goal.returns-then-parts-eq1
 returns-then-parts-eq1 c = search (pitch-single, rules)
 
-pub returns-then-parts : goal.returns-then-parts
-returns-then-parts c = rw c.low.ensures (search pitch-low)
+pub returns-in_err-far : goal.returns-in_err-far
+returns-in_err-far c =
+    let p = err_from_is_err_and c.from_residual.result c.from_residual.ensures.1 in
+    rw (p.1, p.2) (is-pitch c.requires c.args.p (search rules) c.in_err-far.ensures)
 
 pub returns : goal.returns
-returns c = search (is-pitch, rules)
+returns c = rw c.keeps_pitch.ensures (is-pitch c.requires c.args.p (search rules) c.in_ok-far.ensures)
