@@ -14,7 +14,8 @@ use paper::Refusal;
 use std::io;
 use std::io::Read;
 
-// Writes a text, and gives the place after it, as each put_ does.
+// Writes a text, and gives the place after it, as each put_ does. They are no `write!`: its contract does not rule out that a Display fails, and what the
+// program prints is written whatever it is.
 fn put_text(out: &mut [u8], at: usize, text: &[u8]) -> usize
     requires { at + length text.now ≤ length out.old }
     ensures { Put (length text.now) out.old out.new at result text.now }
@@ -54,8 +55,7 @@ fn put_count(out: &mut [u8], at: usize, word: &[u8], x: u64) -> usize
 }
 
 // Writes the line of a refused record.
-fn put_refusal(out: &mut [u8], x: Refusal) -> usize
-    requires { 128 ≤ length out.old }
+fn put_refusal(out: &mut [u8; 128], x: Refusal) -> usize
     ensures { Put 50 out.old out.new 0 result (refusal_line x) }
 {
     let end = put_two(out, 0, b"refused", x.number(), x.value());
@@ -63,8 +63,7 @@ fn put_refusal(out: &mut [u8], x: Refusal) -> usize
 }
 
 // Writes the first two lines of a taken record.
-fn put_counts(out: &mut [u8], n: u64, m: u64) -> usize
-    requires { 128 ≤ length out.old }
+fn put_counts(out: &mut [u8; 128], n: u64, m: u64) -> usize
     ensures { Put 55 out.old out.new 0 result (count_lines n m) }
 {
     let next = put_count(out, 0, b"points", n);
@@ -105,11 +104,10 @@ fn put_closest(out: &mut [u8], at: usize, closest: Result<(u64, u64, u64), Refus
 
 // Writes all the lines.
 fn put_lines(
-    out: &mut [u8],
+    out: &mut [u8; 128],
     checked: Result<(u64, u64), Refusal>,
     closest: Result<(u64, u64, u64), Refusal>,
 ) -> usize
-    requires { 128 ≤ length out.old }
     ensures { Put 128 out.old out.new 0 result (lines (told checked) (told closest)) }
 {
     match checked {
@@ -150,6 +148,7 @@ pub fn report(bytes: &[u8], work: &mut [u8; 65536], out: &mut [u8; 128]) -> usiz
 pub fn read_start<R: Read>(input: &mut R, buffer: &mut [u8]) -> io::Result<usize>
     ensures { IfOk result (λ n. Filled (R.remaining input.old) buffer.new n) }
 {
+    // A `while`: a read gives as much as there is. std's read_exact wants all of the buffer filled, and read_to_end wants memory.
     let mut n = 0;
     while n < buffer.len() {
         let got = input.read(&mut buffer[n..])?;

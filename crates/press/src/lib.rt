@@ -21,7 +21,7 @@ pub struct Answer {
     pub third: u64,
 }
 
-// A part of the caller's record.
+// A part of the caller's record: record's Place, as C has it.
 #[repr(C)]
 #[derive(Clone, Copy)]
 pub struct Part {

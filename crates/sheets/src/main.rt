@@ -4,7 +4,7 @@
 // output that is expected.
 #![tactic(auto)]
 
-ghost use Rattle.std.specs.Prelude.{◌*◌, ◌<◌, ◌≤◌, length, IfOk};
+ghost use Rattle.std.specs.Prelude.{◌<◌, ◌≤◌, IfOk};
 
 use paper::Refusal;
 use record::{Place, Section};
@@ -12,7 +12,8 @@ use std::env::FillError;
 use std::rt::{Env, Files};
 use std::{fmt, fs, io};
 
-// An answer in numbers: 0 and what is given, or a refusal's number and its value.
+// An answer in numbers, as the files have it: 0 and what is given, or a refusal's number and its value. It is not press's Answer: press is
+// what C links, and no library of this repository.
 #[derive(Clone, Copy, PartialEq, Eq)]
 struct Told {
     number: u64,
@@ -159,64 +160,72 @@ fn blank(area: &[u8]) -> bool {
     area.iter().all(|&x| x == 0)
 }
 
-// Number k of a case.
-fn number(file: &[u8], k: usize) -> usize
-    requires k_bound { k < 10 }
-    requires in_bounds { 80 ≤ length file.now }
-{
-    words::get::<8>(file, 8 * k)
+// A case: its call with its two numbers, the lengths of work area and output, the answer that it expects, and the length of its input.
+#[derive(Clone, Copy)]
+struct Case {
+    call: Call,
+    x: u64,
+    y: u64,
+    work: usize,
+    out: usize,
+    expected: Told,
+    input: usize,
 }
 
-// The answer that a case expects.
-fn expected(file: &[u8]) -> Told
-    requires { 80 ≤ length file.now }
+// Number k of a case.
+fn number(head: &[u8; 80], k: usize) -> usize
+    requires { k < 10 }
 {
-    Told {
-        number: number(file, 5) as u64,
-        first: number(file, 6) as u64,
-        second: number(file, 7) as u64,
-        third: number(file, 8) as u64,
+    words::get::<8>(head, 8 * k)
+}
+
+// The numbers of a case, in the order in which a file has them.
+impl From<&[u8; 80]> for Case {
+    fn from(head: &[u8; 80]) -> Case {
+        Case {
+            call: Call::from(number(head, 0)),
+            x: number(head, 1) as u64,
+            y: number(head, 2) as u64,
+            work: number(head, 3),
+            out: number(head, 4),
+            expected: Told {
+                number: number(head, 5) as u64,
+                first: number(head, 6) as u64,
+                second: number(head, 7) as u64,
+                third: number(head, 8) as u64,
+            },
+            input: number(head, 9),
+        }
     }
 }
 
 // Makes a case's call, and compares the answer, the whole output, and the work area with zero.
-fn tried(file: &[u8], input: &[u8], output: &[u8], work: &mut [u8], out: &mut [u8]) -> Outcome
-    requires { 80 ≤ length file.now }
-{
-    let x = number(file, 1) as u64;
-    let y = number(file, 2) as u64;
-    let got = called(Call::from(number(file, 0)), x, y, input, work, out);
-    let right = got == expected(file) && blank(work) && &*out == output;
+fn tried(case: &Case, input: &[u8], output: &[u8], work: &mut [u8], out: &mut [u8]) -> Outcome {
+    let got = called(case.call, case.x, case.y, input, work, out);
+    let right = got == case.expected && blank(work) && &*out == output;
     judged(right, got)
 }
 
-// Runs the case in a file.
-fn run(file: &[u8]) -> Outcome {
-    if file.len() < 80 {
-        return Err(UNFIT);
-    }
-    let w = number(file, 3);
-    let o = number(file, 4);
-    let n = number(file, 9);
-    if 65537 < w || 4096 < o || file.len() - 80 < n {
-        return Err(UNFIT);
-    }
+// Runs the case in a file. None is one that is no case, or that asks for longer areas than those here.
+fn run(file: &[u8]) -> Option<Outcome> {
+    let (head, rest) = file.split_first_chunk::<80>()?;
+    let case = Case::from(head);
+    let (input, output) = rest.split_at_checked(case.input)?;
     let mut work = [7u8; 65537];
     let mut out = [7u8; 4096];
-    let input = &file[80..80 + n];
-    let output = &file[80 + n..];
-    tried(file, input, output, &mut work[..w], &mut out[..o])
+    let work = work.get_mut(..case.work)?;
+    let out = out.get_mut(..case.out)?;
+    Some(tried(&case, input, output, work, out))
 }
 
-// The coordinates of n holes, 32 to a row.
-fn lay_out(list: &mut [u8], n: usize)
-    requires n_bound { n ≤ 2048 }
-    requires n_in_bounds { 4 * n ≤ length list.old }
-{
-    for i in 0..n {
-        words::put::<2>(list, 4 * i, 64 * (i % 32));
-        words::put::<2>(list, 4 * i + 2, 64 * (i / 32));
+// The coordinates of 1,025 holes, 32 to a row.
+fn laid_out() -> [u8; 4100] {
+    let mut list = [0u8; 4100];
+    for i in 0..1025 {
+        words::put::<2>(&mut list, 4 * i, 64 * (i % 32));
+        words::put::<2>(&mut list, 4 * i + 2, 64 * (i / 32));
     }
+    list
 }
 
 // The first n bytes, or all where there are fewer.
@@ -238,15 +247,10 @@ fn full(list: &[u8]) -> Told {
     Told::from(built(list, &mut work, &mut out))
 }
 
-// "1,024 distinct holes pass, 1,025 give 3."
-fn most_holes(list: &[u8]) -> Outcome {
-    let got = full(first(list, 4096));
-    judged(got.number == 0 && got.first == 1024, got)
-}
-
-fn too_many_holes(list: &[u8]) -> Outcome {
-    let got = full(first(list, 4100));
-    judged(got.number == 3 && got.first == 1025, got)
+// Whether the holes in the list's first bytes are answered with this number and this first value.
+fn counted(list: &[u8], size: usize, number: u64, value: u64) -> Outcome {
+    let got = full(first(list, size));
+    judged(got.number == number && got.first == value, got)
 }
 
 // An input of more than 65,536 bytes is refused before all else.
@@ -260,63 +264,62 @@ fn long_input() -> Outcome {
     )
 }
 
-// Prints the line of a case or a sheet, and gives how many agree of this one.
-fn shown(rt: &impl Print, name: &str, outcome: Outcome) -> io::Result<u64>
-    ensures { IfOk result (λ right. right ≤ 1) }
-{
+// Prints the line of a case or a sheet, and gives whether it agrees.
+fn shown(rt: &impl Print, name: &str, outcome: Outcome) -> io::Result<bool> {
     match outcome {
         Ok(()) => {
             println!(rt; "{name} ok")?;
-            Ok(1)
+            Ok(true)
         }
         Err(got) => {
             println!(rt; "{name} differs: answer {got}")?;
-            Ok(0)
+            Ok(false)
         }
     }
 }
 
-// How many of the sheets agree.
+// How many of the sheets agree. "1,024 distinct holes pass, 1,025 give 3."
 fn sheets(rt: &impl Print) -> io::Result<u64>
     ensures { IfOk result (λ right. right ≤ 3) }
 {
-    let mut list = [0u8; 4100];
-    let field: &mut [u8] = &mut list;
-    lay_out(field, 1025);
-    let first = shown(rt, "1024-holes", most_holes(field))?;
-    let second = shown(rt, "1025-holes", too_many_holes(field))?;
-    Ok(first + second + shown(rt, "long-input", long_input())?)
+    let list = laid_out();
+    let first = shown(rt, "1024-holes", counted(&list, 4096, 0, 1024))?;
+    let second = shown(rt, "1025-holes", counted(&list, 4100, 3, 1025))?;
+    let third = shown(rt, "long-input", long_input())?;
+    Ok(u64::from(first) + u64::from(second) + u64::from(third))
 }
 
-// Runs the case in a file, of which at most 8,192 bytes are looked at. Of one that cannot be opened standard error has the reason.
-fn filed<R: Files + Print + Eprint>(rt: &R, name: &str) -> io::Result<u64>
-    ensures { IfOk result (λ right. right ≤ 1) }
-{
+// Runs the case in a file, of which at most 8,192 bytes are looked at, and gives whether it agrees. Of one that cannot be opened standard
+// error has the reason.
+fn filed<R: Files + Print + Eprint>(rt: &R, name: &str) -> io::Result<bool> {
     match fs::open(rt, name) {
         Ok(mut file) => {
             let mut bytes = [0u8; 8192];
             let read = lines::read_start(&mut file, &mut bytes)?;
-            shown(rt, name, run(&bytes[..read]))
+            shown(rt, name, run(&bytes[..read]).unwrap_or(Err(UNFIT)))
         }
         Err(e) => {
             eprintln!(rt; "{name}: {e}")?;
-            Ok(0)
+            Ok(false)
         }
     }
 }
 
-// Runs the case that argument i names. A name that no file can have here is none that agrees. An error is one of the streams or of a file.
-fn case<R: Env + Files + Print + Eprint>(rt: &R, i: usize) -> io::Result<u64>
-    ensures { IfOk result (λ right. right ≤ 1) }
-{
+// The name of a file that argument i is. None is one that no file can have here.
+fn named<'a>(rt: &impl Env, i: usize, path: &'a mut [u8; 4096]) -> Option<&'a str> {
+    let n = rt.arg(i, path).ok()?;
+    str::from_utf8(&path[..n]).ok()
+}
+
+// Runs the case that argument i names, and gives whether it agrees; one that names no file does not. An error is one of the streams or of a
+// file.
+fn case_at<R: Env + Files + Print + Eprint>(rt: &R, i: usize) -> io::Result<bool> {
     let mut path = [0u8; 4096];
-    if let Ok(n) = rt.arg(i, &mut path) {
-        if let Ok(name) = str::from_utf8(&path[..n]) {
-            return filed(rt, name);
-        }
-    }
-    eprintln!(rt; "argument {i} names no file")?;
-    Ok(0)
+    let Some(name) = named(rt, i, &mut path) else {
+        eprintln!(rt; "argument {i} names no file")?;
+        return Ok(false);
+    };
+    filed(rt, name)
 }
 
 // How many of the cases agree. The program's own name is the first of the arguments.
@@ -326,7 +329,7 @@ fn cases<R: Env + Files + Print + Eprint>(rt: &R, n: usize) -> io::Result<u64>
 {
     let mut right = 0;
     for i in 1..n {
-        right += case(rt, i)?;
+        right += u64::from(case_at(rt, i)?);
     }
     Ok(right)
 }
