@@ -74,7 +74,7 @@ fn is_repeat(work: &[u8], holes: &[u8], d: usize, i: usize, b: usize) -> bool
     false
 }
 
-// Puts hole i at the head of the chain of bucket b.
+// Puts hole i at the head of the chain of bucket b. 0 ends a chain and c is hole c - 1: a cell holds numbers.
 fn push(work: &mut [u8], i: usize, b: usize)
     requires grid { Grid work.old }
     requires i_bound { (i < 1024) × (b < 2048) }
@@ -85,7 +85,8 @@ fn push(work: &mut [u8], i: usize, b: usize)
     slate::set_cell(work, slate::MARKS, b, i + 1);
 }
 
-// The least of n holes that stands where a lower-numbered one does. Each is compared only with those of its bucket.
+// The least of n holes that stands where a lower-numbered one does. Each is compared only with those of its bucket. n stands beside the list, which may
+// go on after it.
 pub fn repeated(work: &mut [u8], holes: &[u8], d: usize, n: usize) -> Option<usize>
     requires grid { Grid work.old }
     requires holes_in { HolesIn holes.now d n }

@@ -132,7 +132,8 @@ pub fn write_lines(
 }
 
 // What the program prints for the bytes that it read, followed by zeros; the work area ends all zero. Gives how many bytes it prints.
-// Refusal 17 comes before all others.
+// Refusal 17 comes before all others. An array and a length: this is a public promise. The output and a place in it go on together in what follows the
+// same way, since a struct that holds the output has every function ensure that it still holds it.
 pub fn report(bytes: &[u8], work: &mut [u8; 65536], out: &mut [u8; 128]) -> usize
     ensures { Reports bytes.now work.new out.new result }
 {

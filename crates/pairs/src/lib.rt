@@ -76,7 +76,8 @@ fn put_shape(work: &mut [u8], d: usize, ratio: Ratio, k: usize)
     slate::set_cells::<4>(work, slate::REACH, k, reach);
 }
 
-// Whether nodes i and j, which face each other, are separated: neither reaches further than D.
+// Whether nodes i and j, which face each other, are separated: neither reaches further than D. The slate, the axes, the ratio and the hole count go on
+// together from here: a struct of them would hold the lent slate.
 fn apart(work: &[u8], d: usize, ratio: Ratio, n: usize, i: usize, j: usize) -> bool
     requires { Faces work.now d ratio.a ratio.b n i j }
     ensures { result ≡ separated ratio.a ratio.b (box_on work.now d i) (box_on work.now d j) }

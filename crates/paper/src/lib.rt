@@ -31,6 +31,7 @@ pub enum Refusal {
 
 impl Refusal {
     // Its number in document 01's table.
+    // A match: the cases carry values, so there is no cast, and a From would not say which of the two numbers it gives.
     pub fn number(self) -> u64
         ensures { result ≡ number self }
     {

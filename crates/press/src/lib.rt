@@ -108,7 +108,7 @@ pub extern "C" fn antlophis_links(bytes: &[u8], work: &mut [u8], out: &mut [u8])
     Answer::from(questions::links(bytes, work, out).map(|n| (n, 0, 0)))
 }
 
-// The holes, the nodes, the pairs of a record, without their count; the empty part at the start of one that is refused.
+// The holes, the nodes, the pairs of a record, without their count; the empty part at the start of one that is refused. Three functions: the names are C's.
 #[unsafe(no_mangle)]
 pub extern "C" fn antlophis_holes(bytes: &[u8], work: &mut [u8]) -> Part
     ensures { HandsOver holes_part bytes.now result work.old work.new }

@@ -1,5 +1,5 @@
 // The questions over a taken record: the closest pair, the pitch test and the links.
-// Each inspects the record once and answers from what then stands on the slate; every call ends with the slate wiped.
+// Known is asked in each call: it relates the lent slate with a record's bytes. Each inspects the record once and answers from what then stands on the slate; every call ends with the slate wiped.
 #![tactic(auto)]
 
 ghost use Rattle.std.specs.Prelude.{◌≡◌, ◌+◌, ◌*◌, ◌<◌, ◌≤◌, leb, length};
@@ -33,7 +33,7 @@ struct Near {
     second: usize,
 }
 
-// Farther apart than any two holes. Not None: an Option has None below every Some, and the hot walk would test for it at each pair.
+// Farther apart than any two holes. No plainer as an Option: its None is below every Some, so that each comparison would need a match.
 const FARTHEST: Near = Near {
     far: usize::MAX,
     first: 0,

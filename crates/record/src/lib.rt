@@ -212,7 +212,7 @@ pub fn check(bytes: &[u8], work: &mut [u8]) -> Result<(u64, u64), Refusal>
     Ok((p.n as u64, p.m as u64))
 }
 
-// The place of a section of a record; the empty place at the start of one that is refused.
+// The place of a section of a record; the empty place at the start of one that is refused, and no Option: HandsBack and the C interface promise it.
 pub fn place_of(bytes: &[u8], work: &mut [u8], section: Section) -> Place
     ensures { Located (part_of section) bytes.now work.old work.new result }
 {
@@ -229,7 +229,7 @@ pub fn section_of<'a>(bytes: &'a [u8], work: &mut [u8], section: Section) -> &'a
     part_at(bytes, place_of(bytes, work, section))
 }
 
-// Writes the ratio, the hole count and the holes.
+// Writes the ratio, the hole count and the holes. That the output is blank before is asked in each call from here on: it is C's.
 fn put_head(out: &mut [u8], holes: &[u8], ratio: Ratio, n: usize)
     requires { HeadFits out.old holes.now n }
     ensures { Written out.old out.new 0 (head holes.now ratio.a ratio.b n) }

@@ -100,7 +100,7 @@ impl From<usize> for Call {
 // What a case or a sheet comes to: nothing more to say where it is right, or else the answer that was got.
 type Outcome = Result<(), Told>;
 
-// The answer of a file that is no case, or of one with longer areas than those here.
+// The answer of a file that is no case, or of one with longer areas than those here. Four zeros and no None: they are what the program prints.
 const UNFIT: Told = Told {
     number: 0,
     first: 0,

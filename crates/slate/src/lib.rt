@@ -8,7 +8,7 @@
 ghost use Rattle.std.specs.Prelude.{◌≡◌, ◌^◌, ◌<◌, ◌≤◌, length, replicate};
 ghost use Rattle.slate.specs.Slate.{Within, CellsWithin, WordsIn, Columned, Held, CellsHeld, Set, CellsSet, WordsCleared, Cleared};
 
-// A node's first part; 65,535 for a leaf.
+// The columns are numbers and no enum, since LOW + 2 * x is computed. A node's first part; 65,535 for a leaf.
 pub const FIRST: usize = 0;
 
 // A node's second part; a leaf's hole.
@@ -48,7 +48,8 @@ pub const LOW: usize = 10;
 // The high end; axis x has HIGH + 2 * x.
 pub const HIGH: usize = 11;
 
-// Whether a rank is passed over: a step's own too, in the last column of the boxes.
+// 0 at a rank that is kept, else how many ranks to pass over: a number, since it is in a cell of lent memory. A step's own too, in the last column of
+// the boxes.
 pub const SKIP: usize = 15;
 
 // What cell k of column c holds.

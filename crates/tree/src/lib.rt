@@ -76,7 +76,8 @@ fn put_node(work: &mut [u8], k: usize, node: Node)
 }
 
 // Puts a record's nodes on the slate, one by one, up to the least that breaks its rule. MARKS tells the nodes that are named, SCRATCH
-// the holes that are held.
+// the holes that are held. n stands beside the list, which may go on after it. NodeRow and Stands are asked in each call: they relate the lent slate with
+// numbers.
 pub fn load(work: &mut [u8], nodes: &[u8], n: usize) -> Option<usize>
     requires { NodesIn work.old nodes.now n }
     ensures { Loading nodes.now n work.old work.new result }
@@ -262,7 +263,8 @@ fn rank_fork(work: &mut [u8], k: usize, one: usize, two: usize)
     slate::set_cell(work, slate::FROM, two, from + holes);
 }
 
-// A stretch of ORDER, which is a set of holes: where it starts and how many holes it has.
+// A stretch of ORDER, which is a set of holes: where it starts and how many holes it has. It is not record's Place: that is bytes of a record, this is
+// ranks.
 #[derive(Clone, Copy)]
 struct Stretch {
     from: usize,
