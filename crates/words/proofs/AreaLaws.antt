@@ -22,16 +22,19 @@ unfolding word
 word_zeros l i = rw (zeros l (2 * i), zeros l (2 * i + 1))
 
 -- the two bytes of v at an even place are a word
-pub saved : {old new bs : List ℕ} {i v : ℕ} → Written old new (2 * i) bs → bs ≡ v % 256 ∷ v / 256 % 256 ∷ [] → v < 65_536 → Saved old new i v
+pub saved : {old new : List ℕ} {i v : ℕ} → Written old new (2 * i) (v % 256 ∷ v / 256 ∷ []) → Saved old new i v
 unfolding word
-saved {new} {i} {v} p e l =
-    let q = rw e at p in
-    let low : get_or new (2 * i) 0 ≡ v % 256 = rw add-zero at (q.got 0 (omega arith)) in
+saved {new} {i} {v} p =
+    let low : get_or new (2 * i) 0 ≡ v % 256 = rw add-zero at (p.got 0 (omega arith)) in
     record {
-      len = q.len;
-      here = omega (arith, low, q.got 1 (omega arith));
-      rest = λ k h. rw (q.rest (2 * k) (λ a b. h (omega arith)), q.rest (2 * k + 1) (λ a b. h (omega arith)));
+      len = p.len;
+      here = omega (arith, low, p.got 1 (omega arith));
+      rest = λ k h. rw (p.rest (2 * k) (λ a b. h (omega arith)), p.rest (2 * k + 1) (λ a b. h (omega arith)));
     }
+
+-- so are the library's two bytes of a v that is below 65,536
+pub saved_two : {old new bs : List ℕ} {i v : ℕ} → Written old new (2 * i) bs → bs ≡ v % 256 ∷ v / 256 % 256 ∷ [] → v < 65_536 → Saved old new i v
+saved_two {v} p e l = let f : v / 256 % 256 ≡ v / 256 = omega arith in saved (rw (e, f) at p)
 
 -- two areas of bytes, of one even length, with the same words are the same
 pub same_words : (a b : List ℕ) (n : ℕ) → Bytes a → Bytes b → length a ≡ 2 * n → length b ≡ 2 * n → ((k : ℕ) → k < n → word a k ≡ word b k) → a ≡ b

@@ -15,7 +15,7 @@ use Rattle.std.proofs.lemmas.List.{drop_at, take_all}
 use Rattle.std.proofs.lemmas.List.Edits.{get_or-between, length-between}
 use lib.Arith.{mod-mul}
 use lib.ListN.{length, get_or, set, take, drop, replicate, length-set, length-append, get_or-append}
-use lib.Seq.{get_or-append-add, get_or-set_same, get_or-set_other, drop-cons, ext_get_or, sets, sets-eq}
+use lib.Seq.{get_or-append-add, get_or-set_same, get_or-set_other, drop-cons, ext_get_or, sets, sets-eq, take-suc, length-take-le}
 use Rattle.words.specs.Words.{be, bytes, Bytes, Read, Written}
 
 -- ---- numbers in bytes
@@ -31,6 +31,11 @@ be_split (suc u) w s at =
     let e : suc u + w ≡ suc (u + w) = omega arith in
     let f : at + suc u ≡ at + 1 + u = omega arith in
     rw (e, f, pow-add) (omega (arith, be_split u w s (at + 1)))
+
+pub read_wide : {s : List ℕ} {at a b : ℕ} (u w : ℕ) → Read u s at a → Read w s (at + u) b → Read (u + w) s at (256 ^ w * a + b)
+read_wide {s} {at} {a} {b} u w p q =
+    let l : a + 1 ≤ 256 ^ u = omega arith in
+    record { is = rw (be_split, p.is, q.is); small = rw pow-add (omega (arith, mul-le-mul_left (256 ^ w) l)) }
 
 -- the bytes of a number in two parts
 pub bytes_split : (u w v : ℕ) → bytes (u + w) v ≡ bytes u (v / 256 ^ w) ++ bytes w v
@@ -149,6 +154,19 @@ written_more {b} {c} {at} {to} {xs} {ys} p q e =
           ∙ p.rest k (λ m n. h m (omega (arith, length-append xs ys)));
     }
 
+-- two numbers, one after the other, are one number of both widths
+pub written-wide : {a b c : List ℕ} {at : ℕ} (u w v : ℕ) → Written a b at (bytes u (v / 256 ^ w)) → Written b c (at + u) (bytes w v) → Written a c at (bytes (u + w) v)
+written-wide u w v p q = rw bytes_split (written_more p q (rw length-bytes refl))
+
+-- a byte more of a list, and all of them
+pub written_next : {a b : List ℕ} (from : List ℕ) {at i : ℕ} → Written a b at (take i from) → i < length from → at + length from ≤ length a
+    → Written a (set b (at + i) (get_or from i 0)) at (take (i + 1) from)
+written_next {b} from {at} {i} p l m =
+    rw (add-one, take-suc from i 0) (written_more p (written_one b (at + i) (get_or from i 0) (omega arith)) (rw (length-take-le i from (omega arith)) refl))
+
+pub written_whole : {a b : List ℕ} (from : List ℕ) {at i : ℕ} → Written a b at (take i from) → length from ≤ i → Written a b at from
+written_whole from {i} p l = rw (take_all i from l) at p
+
 -- and where what comes after was written before
 pub written_before : {a b c : List ℕ} {at to : ℕ} {xs ys : List ℕ} → Written a b to ys → Written b c at xs → to ≡ at + length xs → Written a c at (xs ++ ys)
 written_before {a} {b} {c} {at} {to} {xs} {ys} p q e =
@@ -208,6 +226,9 @@ written_apart {old} {new} p u k h = be-same u new old k k (λ i l. p.rest (k + i
 pub written_other : {old new : List ℕ} {at : ℕ} (w v : ℕ) → Written old new at (bytes w v) → (u k : ℕ) → (k < at + w → at < k + u → ⊥) → be u new k ≡ be u old k
 written_other w v p u k h = written_apart p u k (rw length-bytes h)
 
+pub written-bytes : {old new : List ℕ} {at : ℕ} {bs : List ℕ} → Written old new at bs → Bytes old → Bytes bs → Bytes new
+written-bytes {at} {bs} p b c k = ⊎_elim (λ i. rw (written_at p k i.0 i.1) (c (k - at))) (λ o. rw (p.rest k o) (b k)) (inside at (length bs) k)
+
 -- ---- the library's eight bytes of a number
 
 bytes_eight : (v : ℕ) → to_be_bytes w64 v ≡ bytes 8 v
@@ -219,14 +240,14 @@ unfolding be
 be_eight s = omega arith
 
 -- the last W of them
-pub put_last : {old new ts : List ℕ} {at W : ℕ} (v : ℕ) → Written old new at (between (8 - W) 8 ts) → ts ≡ to_be_bytes w64 v → W ≤ 8
+pub put_last : {old new ts : List ℕ} {at W u v : ℕ} → Written old new at (between (8 - W) 8 ts) → ts ≡ to_be_bytes w64 u → u ≡ v → W ≤ 8
     → Written old new at (bytes W v)
-put_last {W} v p e l =
+put_last {W} {v} p e o l =
     let f : 8 - W + W ≡ 8 = omega arith in
     let q : bytes 8 v ≡ bytes (8 - W) (v / 256 ^ W) ++ bytes W v = rw f at (bytes_split (8 - W) W v) in
     let n : length (bytes W v) ≤ 8 - (8 - W) = rw length-bytes (omega arith) in
     rw
-    (e, bytes_eight v, q, drop_at (bytes (8 - W) (v / 256 ^ W)) (bytes W v) (8 - W) (length-bytes (8 - W) (v / 256 ^ W)), take_all (8 - (8 - W)) (bytes W v) n)
+    (e, o, bytes_eight v, q, drop_at (bytes (8 - W) (v / 256 ^ W)) (bytes W v) (8 - W) (length-bytes (8 - W) (v / 256 ^ W)), take_all (8 - (8 - W)) (bytes W v) n)
     at p
 
 -- W bytes behind zeros

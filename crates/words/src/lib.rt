@@ -31,7 +31,10 @@ pub fn copy(to: &mut [u8], at: usize, from: &[u8])
     requires { at + length from.now ≤ length to.old }
     ensures { Written to.old to.new at from.now }
 {
-    to[at..at + from.len()].copy_from_slice(from);
+    // A loop: of std's copy_from_slice the archive for C would need `memmove` from outside.
+    for i in 0..from.len() {
+        to[at + i] = from[i];
+    }
 }
 
 // Zeroes all of s.
