@@ -1,7 +1,7 @@
 // Pairs: listing those of a tree, and the test that each pair of a record is separated.
 #![tactic(auto)]
 
-ghost use Rattle.std.specs.Prelude.{◌≡◌, ◌↔◌, [], ◌∷◌, ◌+◌, ◌*◌, ◌<◌, ◌≤◌, IsTrue};
+ghost use Rattle.std.specs.Prelude.{◌≡◌, ◌↔◌, [], ◌∷◌, ◌+◌, ◌*◌, ◌<◌, ◌≤◌, IsTrue, false};
 ghost use Rattle.slate.specs.Slate.{Grid};
 ghost use Rattle.paper.specs.Record.{two_numbers_at};
 ghost use Rattle.field.specs.Found.{Finds};
@@ -108,6 +108,7 @@ fn halves(work: &[u8], pair: (usize, usize)) -> ((usize, usize), (usize, usize))
 }
 
 // Compares two nodes, and gives the place after the pairs that come of it.
+#[cycle(compare_split)]
 fn compare(
     work: &[u8],
     out: &mut [u8],
@@ -121,8 +122,27 @@ fn compare(
     ensures { Laid (compared_on work.now d ratio.a ratio.b n pair.0 pair.1) at out.old out.new result }
 {
     if apart(work, d, ratio, n, pair.0, pair.1) {
-        return put_pair(out, at, pair);
+        put_pair(out, at, pair)
+    } else {
+        split(work, out, d, ratio, n, pair, at)
     }
+}
+
+// The same of two nodes that are not separated: one of them is split, and each of its parts is compared with the other node.
+#[cycle(compare_split)]
+fn split(
+    work: &[u8],
+    out: &mut [u8],
+    d: usize,
+    ratio: Ratio,
+    n: usize,
+    pair: (usize, usize),
+    at: usize,
+) -> usize
+    requires comparing { Comparing work.now d ratio.a ratio.b n pair.0 pair.1 at }
+    requires near { separated ratio.a ratio.b (box_on work.now d pair.0) (box_on work.now d pair.1) ≡ false }
+    ensures { Laid (compared_on work.now d ratio.a ratio.b n pair.0 pair.1) at out.old out.new result }
+{
     let (one, two) = halves(work, pair);
     let middle = compare(work, out, d, ratio, n, one, at);
     compare(work, out, d, ratio, n, two, middle)
