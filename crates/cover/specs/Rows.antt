@@ -1,7 +1,7 @@
 -- One row of the covering: for a hole, how many pairs cover it and the hole of each rank. A pair that has it in one span covers it with the ranks
 -- of the other span: that span is one more in MARKS where it starts and one more in TALLY where it ends, so that at each rank as many
 -- spans are open as more have started up to it than have ended. Assumes nothing.
-use Rattle.std.specs.Prelude.{◌≡◌, true, ◌&&◌, ◌||◌, List, ℕ, ◌+◌, ◌*◌, ◌<◌, ◌≤◌, min, ltb, length, Option, MatchOption}
+use Rattle.std.specs.Prelude.{◌≡◌, true, ◌&&◌, ◌||◌, List, ℕ, ◌+◌, ◌*◌, ◌<◌, ◌≤◌, min, ltb, length}
 use Rattle.slate.specs.Columns.{HOLES, FROM, RANK, MARKS, SCRATCH, TALLY, LOW}
 use Rattle.slate.specs.Slate.{cell, cells, Grid, Kept}
 use Rattle.paper.specs.Record.{two_numbers_at}
@@ -128,17 +128,6 @@ pub record Row (ps : List ℕ) (n m i : ℕ) (old new : List ℕ) : Type 0 where
   pub kept : Beside old new
   pub row : RowOn new ps n m i
 
--- each of n holes has a rank
-pub record Ranked (w : List ℕ) (n : ℕ) : Type 0 where
-  pub grid : Grid w
-  pub few : n ≤ 1_024
-  pub ranks : (h : ℕ) → h < n → cell w RANK h < n
-
--- what SCRATCH says for the rank of hole j; the least hole after hole i for whose rank it does not say 1
+-- what SCRATCH says for the rank of hole j
 abbrev pub said : List ℕ → ℕ → ℕ
 said w j = cell w SCRATCH (cell w RANK j)
-
-abbrev pub Partner : List ℕ → ℕ → ℕ → Option ℕ → Type 0
-Partner w n i r =
-    MatchOption r ((j : ℕ) → i + 1 ≤ j → j < n → said w j ≡ 1)
-    (λ j. (i + 1 ≤ j) × (j < n) × (said w j ≡ 1 → ⊥) × ((k : ℕ) → i + 1 ≤ k → k < j → said w k ≡ 1))

@@ -6,7 +6,7 @@
 ghost use Rattle.std.specs.Prelude.{◌≡◌, ◌&&◌, ◌+◌, ◌-◌, ◌*◌, ◌^◌, ◌<◌, ◌≤◌, leb, ltb, min, max};
 ghost use Rattle.cover.specs.Spans.{Ready, Covering};
 ghost use Rattle.cover.specs.Rows.{pair_at, meeting, Open, SpanOn, SpanOf, SpansOf, PairSpans, Counting, OneMore, Ranks, Emptied};
-ghost use Rattle.cover.specs.Rows.{Uncounted, Tallying, Tallied, Spreading, Opening, Counted, Spread, Row, Ranked, Partner};
+ghost use Rattle.cover.specs.Rows.{Uncounted, Tallying, Tallied, Spreading, Opening, Counted, Spread, Row};
 ghost use Rattle.cover.specs.Bits.{between};
 ghost use Rattle.cover.specs.Marks.{row_at, BitsIn, BitsSet, BitsFull, RunIn, RunSet, RunFull, RowIn, RowsIn, RanksIn, BlockIn};
 ghost use Rattle.cover.specs.Marks.{Marked, RowsMarked, Gone, Passed, Advanced, PairMarking, PairsMarking};
@@ -366,32 +366,29 @@ fn sift(work: &mut [u8], pairs: &[u8], n: usize, m: usize)
     }
 }
 
-// The least hole after hole i that is not covered exactly once with it, where SCRATCH says for the rank of each how often it is.
-fn partner(work: &[u8], n: usize, i: usize) -> Option<usize>
-    requires ranked { Ranked work.now n }
-    requires i_lt_n { i < n }
-    ensures { Partner work.now n i result }
-{
-    (i + 1..n).find(|&j| slate::cell(work, slate::SCRATCH, slate::cell(work, slate::RANK, j)) != 1)
-}
-
-// The least two of n holes, by the first and then by the second, that are not covered exactly once. A hole whose rank is kept is passed over.
+// The least two of n holes, by the first and then by the second, that are not covered exactly once: the search stops for good at the first two that
+// it comes to. A hole whose rank is kept is passed over, and SCRATCH says for the rank of each other hole how often it is covered.
 fn least_two(work: &mut [u8], pairs: &[u8], n: usize, m: usize) -> Option<(usize, usize)>
     requires ready { Ready work.old pairs.now n m }
     requires goods { Goods work.old pairs.now n m }
     ensures { Covering pairs.now n m work.old work.new result }
 {
-    for i in 0..n {
+    let mut found = None;
+    'search: for i in 0..n {
         let x = slate::cell(work, slate::RANK, i);
         if slate::cell(work, slate::SKIP, x) == 0 {
             continue;
         }
         row(work, pairs, n, m, i);
-        if let Some(j) = partner(work, n, i) {
-            return Some((i, j));
+        for j in i + 1..n {
+            let r = slate::cell(work, slate::RANK, j);
+            if slate::cell(work, slate::SCRATCH, r) != 1 {
+                found = Some((i, j));
+                break 'search;
+            }
         }
     }
-    None
+    found
 }
 
 // The least two of n holes that are not covered exactly once.
