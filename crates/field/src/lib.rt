@@ -328,7 +328,8 @@ pub fn reach(work: &[u8], d: usize, ratio: Ratio, k: usize) -> usize
     ensures { (result ≡ reach ratio.a ratio.b (box_on work.now d k)) × (result < 562949953421312) }
 {
     let size = weighed(2 * ratio.b + ratio.a, girth(work, d, k));
-    size.div_ceil(squared(ratio.b)).max(1)
+    let parts = squared(ratio.b);
+    size.div_ceil(parts).max(1)
 }
 
 // The axis on which node k's box is longest, the first of them on a tie.

@@ -24,22 +24,23 @@ up x q p =
     let high = (div-lt_iff_lt-mul {k = q} {x = x + (q - 1)} {y = div_ceil x q + 1} p).1 (omega (arith, t.0)) in
     omega (arith, low, high)
 
-found : {a b g q z r : ℕ} (B : Box) → Ratio a b → g ≡ G B → z ≡ square (2 * b + a) * g → Squared b q → r ≡ max (div_ceil z q) 1 → r ≡ reach a b B
+found : {a b g k q u z r : ℕ} (B : Box) → Ratio a b → g ≡ G B → z ≡ square (2 * b + a) * g → Squared b q → k ≡ div_ceil u q → u ≡ z → r ≡ max k 1
+    → r ≡ reach a b B
 unfolding reach
-found {q = q} {z = z} B t e f s h = rw (← e, ← f, ← s.is) (omega (arith, h, up z q (some_parts t s)))
+found {q = q} {u = u} B t e f s d i h = rw (← e, ← f, ← i, ← s.is) (omega (arith, h, d, up u q (some_parts t s)))
 
-small : {a b g z r : ℕ} (q : ℕ) → Ratio a b → g < 51_539_607_552 → z ≡ square (2 * b + a) * g → r ≡ max (div_ceil z q) 1 → r < 562_949_953_421_312
-small {a} {b} {z = z} q t l e h =
+small : {a b g k u z r : ℕ} (q : ℕ) → Ratio a b → g < 51_539_607_552 → z ≡ square (2 * b + a) * g → k ≡ div_ceil u q → u ≡ z → r ≡ max k 1
+    → r < 562_949_953_421_312
+small {a} {b} {u = u} q t l e d i h =
     let m : 2 * b + a ≤ 80 = omega (arith, t.a_high, t.b_high) in
-    omega (arith, h, e, mul-le-mul (mul-le-mul m m) l, div-le_self z q)
+    omega (arith, h, d, e, i, mul-le-mul (mul-le-mul m m) l, div-le_self u q)
 
 pub div_ceil-requires : goal.div_ceil-requires
 div_ceil-requires c = search (some_parts, rules)
 
 pub returns : goal.returns
 returns c =
+    let t = c.args.ratio.in_range in
     let g = c.girth.ensures in
-    let z = c.weighed-size.ensures in (
-      found _ c.args.ratio.in_range g.0 z c.squared.ensures (search rules),
-      small c.squared.result c.args.ratio.in_range g.1 z (search rules),
-    )
+    let z = c.weighed-size.ensures in
+    (found _ t g.0 z c.squared-parts.ensures c.div_ceil.ensures (omega arith) c.max.ensures, small _ t g.1 z c.div_ceil.ensures (omega arith) c.max.ensures)
