@@ -36,5 +36,3 @@ module _ (w ps : List ℕ) where
   pub link_more : (k : ℕ) {a b c : List ℕ} → Written a b 0 (links_on w ps k) → Written b c (4 * k) (two_numbers (link_on w (two_numbers_at ps (4 * k))))
       → Written a c 0 (links_on w ps (k + 1))
   link_more k s t = rw (add-one, links_more k) (written_more s t (omega (arith, length-links k)))
-
--- room for one more

@@ -12,8 +12,8 @@ use Rattle.words.proofs.Laws.{be-same}
 use Rattle.paper.specs.Lists.{from}
 use Rattle.paper.specs.Field.{list_at, hole_at, holes_at}
 use Rattle.paper.specs.Record.{two_numbers_at, holes_start, nodes_start, pairs_start, holes_in, pairs_in, nodes_of, view_of}
-use Rattle.paper.specs.Rules.{pair}
-use Rattle.theory.proofs.RoundTrip.{view_pair}
+use Rattle.paper.specs.Rules.{node, pair}
+use Rattle.theory.proofs.RoundTrip.{view_node, view_pair}
 use Rattle.record.specs.Cutting.{Framing, holes_slice, nodes_slice, pairs_slice}
 
 -- a reading that looks at nothing but the w bytes from its place on
@@ -64,6 +64,12 @@ hole_looks d = list_looks (be 2) 2 (be-same 2) d
 -- the slices
 module _ (r : List ℕ) where
   module _ (f : Framing r) where
+    pub holes-length : length (holes_slice r) ≡ 4 * holes_in r
+    holes-length = slice_length _ holes_start r (omega arith)
+
+    pub nodes_length : length (nodes_slice r) ≡ 4 * nodes_of (holes_in r)
+    nodes_length = slice_length _ (nodes_start (holes_in r)) r (omega arith)
+
     pub pairs-length : length (pairs_slice r) ≡ 4 * pairs_in r
     pairs-length = slice_length _ (pairs_start (holes_in r)) r (omega arith)
 
@@ -78,6 +84,9 @@ module _ (r : List ℕ) where
   pub pairs_said : (view_of r).pairs ≡ list_at two_numbers_at 4 (pairs_slice r) 0 (pairs_in r)
   unfolding view_of
   pairs_said = sym (slice_list two_numbers_at 4 two_looks r (pairs_start (holes_in r)) (pairs_in r))
+
+  pub node_said : (k : ℕ) → k < nodes_of (holes_in r) → node (view_of r) k ≡ two_numbers_at (nodes_slice r) (4 * k)
+  node_said k l = view_node r k l ∙ sym (slice_thing two_numbers_at 4 two_looks r (nodes_start (holes_in r)) (nodes_of (holes_in r)) k l)
 
   pub pair_said : (k : ℕ) → k < pairs_in r → pair (view_of r) k ≡ two_numbers_at (pairs_slice r) (4 * k)
   pair_said k l = view_pair r k l ∙ sym (slice_thing two_numbers_at 4 two_looks r (pairs_start (holes_in r)) (pairs_in r) k l)
