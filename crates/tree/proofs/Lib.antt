@@ -1,5 +1,6 @@
 pub mod Views
 pub mod LoadTurns
+pub mod Loaded
 pub mod UnderLength
 pub mod Standing
 pub mod Totals

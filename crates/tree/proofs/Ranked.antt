@@ -24,6 +24,12 @@ module _ {n : ℕ} {old new : List ℕ} (s : Stands old n) (r : Ranked n old new
   pub ranked_holes : (k : ℕ) → k < nodes_of n → cell new HOLES k ≡ cell old HOLES k
   ranked_holes k b = r.rest _ (omega arith)
 
+  pub ranked_stands : Stands new n
+  ranked_stands = record { grid = omega (arith, r.len); some = s.some; few = s.few; rules = rw ranked_tree s.rules }
+
+  pub ranked_counted : Counted old n → Counted new n
+  ranked_counted c = rw ranked_tree (λ k b. rw (ranked_holes k b) (c k b))
+
 module _ {n : ℕ} {old new : List ℕ} (s : Stands old n) (counted : Counted old n) (r : Ranked n old new) (k : ℕ) (b : k < nodes_of n) where
   -- place i of node k's holes is place FROM k + i of all
   at_stretch : (i : ℕ) → i < cell old HOLES k

@@ -65,3 +65,7 @@ same-tree a b n f s =
 pub alike_on : (v : View) (w : List ℕ) (n : ℕ) → hole_count v ≡ n → ((k : ℕ) → k < nodes_of n → node v k ≡ (cell w FIRST k, cell w SECOND k))
     → Alike v (tree_on w n)
 alike_on v w n e h = grind (arith, common_steps, on_holes, on_node)
+
+pub alike_tree : (ns w : List ℕ) (n : ℕ) → ((k : ℕ) → k < nodes_of n → cell w FIRST k ≡ be 2 ns (4 * k))
+    → ((k : ℕ) → k < nodes_of n → cell w SECOND k ≡ be 2 ns (4 * k + 2)) → Alike (tree_in ns n) (tree_on w n)
+alike_tree ns w n f s = alike_on (tree_in ns n) w n (in_holes ns n) (λ k l. in_node ns n k l ∙ rw (f k l, s k l))
