@@ -15,7 +15,7 @@ use Rattle.std.proofs.lemmas.List.{drop_at, take_all}
 use Rattle.std.proofs.lemmas.List.Edits.{get_or-between, length-between}
 use lib.Arith.{mod-mul}
 use lib.ListN.{length, get_or, set, take, drop, replicate, length-set, length-append, get_or-append}
-use lib.Seq.{get_or-append-add, get_or-set_same, get_or-set_other, drop-cons, ext_get_or, sets, sets-eq, take-suc, length-take-le}
+use lib.Seq.{get_or-append-add, get_or-set_same, get_or-set_other, drop-cons, ext_get_or, sets, sets-eq}
 use Rattle.words.specs.Words.{be, bytes, Bytes, Read, Written}
 
 -- ---- numbers in bytes
@@ -157,15 +157,6 @@ written_more {b} {c} {at} {to} {xs} {ys} p q e =
 -- two numbers, one after the other, are one number of both widths
 pub written-wide : {a b c : List ℕ} {at : ℕ} (u w v : ℕ) → Written a b at (bytes u (v / 256 ^ w)) → Written b c (at + u) (bytes w v) → Written a c at (bytes (u + w) v)
 written-wide u w v p q = rw bytes_split (written_more p q (rw length-bytes refl))
-
--- a byte more of a list, and all of them
-pub written_next : {a b : List ℕ} (from : List ℕ) {at i : ℕ} → Written a b at (take i from) → i < length from → at + length from ≤ length a
-    → Written a (set b (at + i) (get_or from i 0)) at (take (i + 1) from)
-written_next {b} from {at} {i} p l m =
-    rw (add-one, take-suc from i 0) (written_more p (written_one b (at + i) (get_or from i 0) (omega arith)) (rw (length-take-le i from (omega arith)) refl))
-
-pub written_whole : {a b : List ℕ} (from : List ℕ) {at i : ℕ} → Written a b at (take i from) → length from ≤ i → Written a b at from
-written_whole from {i} p l = rw (take_all i from l) at p
 
 -- and where what comes after was written before
 pub written_before : {a b c : List ℕ} {at to : ℕ} {xs ys : List ℕ} → Written a b to ys → Written b c at xs → to ≡ at + length xs → Written a c at (xs ++ ys)

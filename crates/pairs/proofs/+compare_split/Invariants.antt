@@ -4,7 +4,7 @@ use Rattle.theory.specs.Trees.{leaves}
 use Rattle.pairs.specs.Comparing.{node_on}
 use Rattle.pairs.proofs.+compare_split.Given as goal
 
-abbrev holes_under : List ℕ → ℕ → ℕ → ℕ → ℕ
+abbrev pub holes_under : List ℕ → ℕ → ℕ → ℕ → ℕ
 holes_under w n i j = leaves (node_on w n i) + leaves (node_on w n j)
 
 abbrev pub decreases-compare : goal.decreases-compare

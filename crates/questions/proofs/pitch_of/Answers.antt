@@ -1,11 +1,12 @@
 -- One case for each return. Assumes nothing.
-use Rattle.std.proofs.Common.{rules}
+use Rattle.std.proofs.Common.{rules, arith}
 use Rattle.std.proofs.lemmas.Result.{err_from_is_err_and}
 use Rattle.questions.proofs.Replies.{pitch-single, is-pitch}
 use Rattle.questions.proofs.pitch_of.Goals as goal
 
 pub returns-then-parts-eq1 : goal.returns-then-parts-eq1
-returns-then-parts-eq1 c = search (pitch-single, rules)
+returns-then-parts-eq1 c =
+    let k = c.requires.parts in pitch-single c.requires c.args.p (omega (arith, k.n_is, k.framing.some))
 
 pub returns-in_err-far : goal.returns-in_err-far
 returns-in_err-far c =
