@@ -14,7 +14,8 @@ run:
 	(cd crates/verdict && rt run) < "$(RECORD)"
 
 # Every crate proved, from nothing where this machine has not kept the proof of the same files, every must-fail edit refused and none of them
-# bad, the programs run; then the library and the program from Rust and from C. The last line is the prover's, printed again where everything passed.
+# bad, the programs run; then the archive, which needs `memset` from outside and nothing else, for callers without a C library; then the library and
+# the program from Rust and from C. The last line is the prover's, printed again where everything passed.
 test:
 	log=$$(mktemp)
 	trap 'rm -f "$$log"' EXIT
@@ -24,6 +25,11 @@ test:
 		exit 1
 	fi
 	(cd crates/press && rt lib)
+	wanted=$$(nm -u $(LIBRARY) | awk '$$1 == "U" { print $$2 }' | sort -u | tr '\n' ' ')
+	if [ "$$wanted" != 'memset ' ]; then
+		echo "the archive needs from outside: $$wanted" >&2
+		exit 1
+	fi
 	mkdir -p target
 	$(CC) -std=c11 -Wall -Wextra -Werror -O2 -Iinclude examples/press.c $(LIBRARY) -o target/press
 	target/press
